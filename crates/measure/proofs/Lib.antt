@@ -1,0 +1,4 @@
+pub mod Fingerprints
+pub mod Modular
+pub mod Tallies
+pub mod Totals

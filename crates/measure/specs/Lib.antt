@@ -1,0 +1,4 @@
+pub mod Fingerprints
+pub mod Pairs
+pub mod Tallies
+pub mod Totals

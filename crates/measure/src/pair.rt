@@ -1,0 +1,33 @@
+ghost use mathlib.Core.Path.{_≡_};
+ghost use Rattle.measure.specs.Pairs.{side-by-side};
+use super::Measure;
+use super::Pair;
+
+pub impl<E, A: Measure<E>, B: Measure<E>> Measure<E> for Pair<A, B> as PairMeasure {
+    ghost neutral = { side-by-side (A·Measure .neutral) (B·Measure .neutral) };
+
+    ghost value = { λ e. side-by-side (A·Measure .value e) (B·Measure .value e) };
+
+    ghost joined = { λ x y. side-by-side (A·Measure .joined (x .first) (y .first)) (B·Measure .joined (x .second) (y .second)) };
+
+    fn empty() -> Pair<A, B> {
+        Pair {
+            first: A::empty(),
+            second: B::empty(),
+        }
+    }
+
+    fn of(element: &E) -> Pair<A, B> {
+        Pair {
+            first: A::of(element),
+            second: B::of(element),
+        }
+    }
+
+    fn join(self, after: Pair<A, B>) -> Pair<A, B> {
+        Pair {
+            first: self.first.join(after.first),
+            second: self.second.join(after.second),
+        }
+    }
+}
