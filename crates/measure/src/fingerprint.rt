@@ -3,21 +3,16 @@ ghost use Rattle.measure.specs.Fingerprints.{bytes-joined, fingerprint, no-byt
 use super::Fingerprint;
 use super::MODULUS;
 use super::Measure;
+use super::Total;
 use element::Element;
 
-pub impl<E: Element> Measure<E> for Fingerprint as FingerprintMeasure {
+pub impl Total for Fingerprint as FingerprintTotal {
     ghost neutral = { no-bytes };
-
-    ghost value = { λ e. one-byte (E·Element .shown e) };
 
     ghost joined = { bytes-joined };
 
     fn empty() -> Fingerprint {
         reduced(1, 0)
-    }
-
-    fn of(element: &E) -> Fingerprint {
-        reduced(31, u64::from(element.shown_byte()) + 1)
     }
 
     fn join(self, after: Fingerprint) -> Fingerprint {
@@ -26,6 +21,14 @@ pub impl<E: Element> Measure<E> for Fingerprint as FingerprintMeasure {
             u64::from(self.power) * u64::from(after.power),
             raised + u64::from(after.value),
         )
+    }
+}
+
+pub impl<E: Element> Measure<E> for Fingerprint as FingerprintMeasure {
+    ghost value = { λ e. one-byte (E·Element .shown e) };
+
+    fn of(element: &E) -> Fingerprint {
+        reduced(31, u64::from(element.shown_byte()) + 1)
     }
 }
 

@@ -10,8 +10,11 @@ mod tally;
 mod types;
 
 pub use fingerprint::FingerprintMeasure;
+pub use fingerprint::FingerprintTotal;
 pub use pair::PairMeasure;
+pub use pair::PairTotal;
 pub use tally::TallyMeasure;
+pub use tally::TallyTotal;
 pub use types::Fingerprint;
 pub use types::Pair;
 pub use types::Tally;
@@ -19,13 +22,11 @@ pub use types::Tally;
 // Fingerprints and tallies are numbers modulo 2^32.
 const MODULUS: u64 = 1 << 32;
 
-// Implemented by the type of the totals, over a kind of elements E.
-pub trait Measure<E>: Copy {
+// The totals of a measure: what they are for no elements, and for two parts, one after the other. What keeps totals of
+// parts needs no more than this, and knows no elements.
+pub trait Total: Copy {
     // The total of no elements.
     ghost neutral: { Self };
-
-    // The total of one element.
-    ghost value: { E → Self };
 
     // The total of two parts, one after the other.
     ghost joined: { Self → Self → Self };
@@ -36,17 +37,23 @@ pub trait Measure<E>: Copy {
     fn empty() -> Self
         ensures { λ r. ⌜ r ≡ neutral ⌝ };
 
-    fn of(element: &E) -> Self
-        ensures { λ r. ⌜ r ≡ value (now (element .entry)) ⌝ };
-
     fn join(self, after: Self) -> Self
         ensures { λ r. ⌜ r ≡ joined self after ⌝ };
 }
 
+// A measure over the elements E, implemented by the type of its totals.
+pub trait Measure<E>: Total {
+    // The total of one element.
+    ghost value: { E → Self };
+
+    fn of(element: &E) -> Self
+        ensures { λ r. ⌜ r ≡ value (now (element .entry)) ⌝ };
+}
+
 // The total of a part. Wherever the part is cut in two, it is also the join of the totals of both.
 pub fn fold<E, T: Measure<E>>(part: &[E]) -> T
-    ensures whole { λ r. ⌜ r ≡ total neutral value joined (now (part .entry)) ⌝ }
-    ensures cut { λ r. ⌜ ((front back : List E) → now (part .entry) ≡ front ++ back → r ≡ joined (total neutral value joined front) (total neutral value joined back)) ⌝ }
+    ensures whole { λ r. ⌜ r ≡ total (T·Total .neutral) value (T·Total .joined) (now (part .entry)) ⌝ }
+    ensures cut { λ r. ⌜ ((front back : List E) → now (part .entry) ≡ front ++ back → r ≡ T·Total .joined (total (T·Total .neutral) value (T·Total .joined) front) (total (T·Total .neutral) value (T·Total .joined) back)) ⌝ }
 {
     let mut sum = T::empty();
     for element in part {
@@ -57,7 +64,7 @@ pub fn fold<E, T: Measure<E>>(part: &[E]) -> T
 
 // The total of a part and of one element after it.
 fn extended<E, T: Measure<E>>(sum: T, element: &E) -> T
-    ensures { λ r. ⌜ r ≡ joined sum (value (now (element .entry))) ⌝ }
+    ensures { λ r. ⌜ r ≡ T·Total .joined sum (value (now (element .entry))) ⌝ }
 {
     sum.join(T::of(element))
 }
@@ -93,7 +100,7 @@ mod tests {
         for cut in 0..7usize {
             let front: Fingerprint = fold(&COPY[0..cut]);
             let back: Fingerprint = fold(&COPY[cut..6]);
-            let joined = FingerprintMeasure::<u8>::join(front, back);
+            let joined = front.join(back);
             check_eq(joined.value, whole.value)?;
             check_eq(joined.power, whole.power)?;
         }

@@ -2,13 +2,12 @@ ghost use mathlib.Core.Path.{_≡_};
 ghost use Rattle.measure.specs.Pairs.{side-by-side};
 use super::Measure;
 use super::Pair;
+use super::Total;
 
-pub impl<E, A: Measure<E>, B: Measure<E>> Measure<E> for Pair<A, B> as PairMeasure {
-    ghost neutral = { side-by-side (A·Measure .neutral) (B·Measure .neutral) };
+pub impl<A: Total, B: Total> Total for Pair<A, B> as PairTotal {
+    ghost neutral = { side-by-side (A·Total .neutral) (B·Total .neutral) };
 
-    ghost value = { λ e. side-by-side (A·Measure .value e) (B·Measure .value e) };
-
-    ghost joined = { λ x y. side-by-side (A·Measure .joined (x .first) (y .first)) (B·Measure .joined (x .second) (y .second)) };
+    ghost joined = { λ x y. side-by-side (A·Total .joined (x .first) (y .first)) (B·Total .joined (x .second) (y .second)) };
 
     fn empty() -> Pair<A, B> {
         Pair {
@@ -17,17 +16,21 @@ pub impl<E, A: Measure<E>, B: Measure<E>> Measure<E> for Pair<A, B> as PairMeasu
         }
     }
 
-    fn of(element: &E) -> Pair<A, B> {
-        Pair {
-            first: A::of(element),
-            second: B::of(element),
-        }
-    }
-
     fn join(self, after: Pair<A, B>) -> Pair<A, B> {
         Pair {
             first: self.first.join(after.first),
             second: self.second.join(after.second),
+        }
+    }
+}
+
+pub impl<E, A: Measure<E>, B: Measure<E>> Measure<E> for Pair<A, B> as PairMeasure {
+    ghost value = { λ e. side-by-side (A·Measure .value e) (B·Measure .value e) };
+
+    fn of(element: &E) -> Pair<A, B> {
+        Pair {
+            first: A::of(element),
+            second: B::of(element),
         }
     }
 }

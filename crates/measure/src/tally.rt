@@ -3,12 +3,11 @@ ghost use Rattle.measure.specs.Tallies.{none-typed, one-typed, tally, typed-jo
 use super::MODULUS;
 use super::Measure;
 use super::Tally;
+use super::Total;
 use element::Element;
 
-pub impl<E: Element> Measure<E> for Tally as TallyMeasure {
+pub impl Total for Tally as TallyTotal {
     ghost neutral = { none-typed };
-
-    ghost value = { λ e. one-typed (E·Element .typist e) };
 
     ghost joined = { typed-joined };
 
@@ -16,13 +15,17 @@ pub impl<E: Element> Measure<E> for Tally as TallyMeasure {
         reduced(0)
     }
 
+    fn join(self, after: Tally) -> Tally {
+        reduced(u64::from(self.count) + u64::from(after.count))
+    }
+}
+
+pub impl<E: Element> Measure<E> for Tally as TallyMeasure {
+    ghost value = { λ e. one-typed (E·Element .typist e) };
+
     fn of(element: &E) -> Tally {
         let typed = if element.hand() > 0 { 1 } else { 0 };
         reduced(typed)
-    }
-
-    fn join(self, after: Tally) -> Tally {
-        reduced(u64::from(self.count) + u64::from(after.count))
     }
 }
 

@@ -6,5 +6,5 @@ use Rattle.measure.proofs.fold.Given as given
 
 abbrev pub Inv-loop-element : given.InvT-loop-element
 Inv-loop-element g l =
-    let m = g .T·Measure in
-    (l .element-index ≤ length (l .part)) × (l .sum ≡ total (m .neutral) (m .value) (m .joined) (take (l .element-index) (l .part)))
+    let m = g .T·Total in
+    (l .element-index ≤ length (l .part)) × (l .sum ≡ total (m .neutral) (g .T·Measure .value) (m .joined) (take (l .element-index) (l .part)))

@@ -1,0 +1,12 @@
+use mathlib.Core.Path.{_≡_}
+use Prim.Native.Nat.{_+_, _≤_}
+use lib.ListN.{length}
+use Rattle.std.specs.Written.{decimal}
+use Rattle.printing.proofs.decimal_width.Given as given
+
+-- the digits counted so far, past the first, are those that `rest` no longer has
+abbrev pub Inv-loop-rest : given.InvT-loop-rest
+Inv-loop-rest l = (l .rest ≤ l .n) × (l .width + length (decimal (l .rest)) ≡ length (decimal (l .n)) + 1)
+
+abbrev pub μ-loop-rest : given.MeasureT-loop-rest
+μ-loop-rest l = l .rest

@@ -1,0 +1,4 @@
+use Rattle.session.proofs.print_denial.Needs as need
+
+pub returns : need.returns
+returns c = ?

@@ -1,0 +1,70 @@
+// A session: it reads a paper, that is a set text and a script, and gives what is printed for it.
+ghost use mathlib.Core.Path.{_≡_};
+ghost use mathlib.Core.List.{map};
+ghost use Rattle.std.specs.Of.Vec.{vec-items};
+ghost use Rattle.std.specs.Vec.{made as when-made};
+ghost use Rattle.printing.specs.Numerals.{denial-line, totals-line};
+ghost use Rattle.script.specs.Denials.{number-of};
+ghost use Rattle.session.specs.Report.{report};
+use element::Element;
+use measure::Fingerprint;
+use measure::FingerprintMeasure;
+use measure::Pair;
+use measure::PairMeasure;
+use measure::Tally;
+use measure::TallyMeasure;
+use measure::fold;
+use printing::write_denial;
+use printing::write_totals;
+use script::denial::SessionDenial;
+use script::paper::read_paper;
+use std::alloc::AllocError;
+use std::alloc::Global;
+
+// The hand that a set text is typed by.
+const SET_HAND: u8 = 0;
+
+// The totals that a session keeps of every part of its text.
+pub type Totals = Pair<Fingerprint, Tally>;
+
+// The elements of a set text.
+pub fn set_elements<E: Element>(heap: Global, text: &[u8]) -> Result<Vec<E>, AllocError>
+    ensures { λ r. ⌜ when-made r (λ v. vec-items v ≡ map (λ b. made b 0) (now (text .entry))) ⌝ }
+{
+    let mut elements = Vec::new(heap);
+    for byte in text {
+        elements.push(E::make(*byte, SET_HAND))?;
+    }
+    Ok(elements)
+}
+
+// What is printed for an input: a denial of it, or the totals of its set text.
+pub fn run<E: Element>(heap: Global, input: &[u8]) -> Result<Vec<u8>, AllocError>
+    ensures { λ r. ⌜ when-made r (λ v. vec-items v ≡ report made shown typist (now (input .entry))) ⌝ }
+{
+    match read_paper(input) {
+        Ok(paper) => {
+            let elements: Vec<E> = set_elements(heap, paper.set_text)?;
+            print_totals(heap, fold(&elements))
+        }
+        Err(denial) => print_denial(heap, denial),
+    }
+}
+
+// The line of some totals.
+fn print_totals(heap: Global, totals: Totals) -> Result<Vec<u8>, AllocError>
+    ensures { λ r. ⌜ when-made r (λ v. vec-items v ≡ totals-line (totals .first .value) (totals .second .count)) ⌝ }
+{
+    let mut line = [0; 64];
+    let end = write_totals(&mut line, 0, totals.first.value, totals.second.count);
+    Vec::from_slice(heap, &line[0..end.unwrap_or(0)])
+}
+
+// The line of a denial.
+fn print_denial(heap: Global, denial: SessionDenial) -> Result<Vec<u8>, AllocError>
+    ensures { λ r. ⌜ when-made r (λ v. vec-items v ≡ denial-line (number-of denial)) ⌝ }
+{
+    let mut line = [0; 64];
+    let end = write_denial(&mut line, 0, denial.number());
+    Vec::from_slice(heap, &line[0..end.unwrap_or(0)])
+}
