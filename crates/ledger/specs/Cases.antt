@@ -1,0 +1,124 @@
+-- Worked cases: calls on a new ledger of bytes, and what each of them answers. Assumes nothing.
+use Prim.Native.Nat.{ℕ, suc}
+use mathlib.Core.List.{List, [], _∷_, _++_, map}
+use mathlib.Core.Path.{_≡_}
+use lib.Dec.{eqb}
+use lib.ListN.{length}
+use Rattle.std.specs.declared.option.Option.the-variants.{None, Some}
+use Rattle.measure.specs.Fingerprints.{no-bytes, one-byte, bytes-joined}
+use Rattle.measure.specs.Totals.{total as total-of}
+use Rattle.ledger.specs.Answers.{Answer, Shallow, answers, done, denied, number, element, mark as mark-is, line, total, depth-of}
+use Rattle.ledger.specs.Calls.{Call, opening, closing, cancelling, inserting, deleting, setting, retracting, undoing, redoing, jumping, asking, text-length, element-at, mark-named, line-count, line-numbered, part-total, piece-count, tree-depth, run-count, current-version}
+use Rattle.ledger.specs.Ledgers.{begin}
+use Rattle.ledger.specs.Making.{capacities-of}
+use Rattle.ledger.specs.Steps.{mark}
+use Rattle.ledger.specs.declared.denial.Denial.the-variants.{PastTheText, NoLine, AddedFull}
+use Rattle.ledger.specs.declared.words.Capacities.{Capacities}
+use Rattle.ledger.specs.declared.words.Gravity.the-variants.{Left, Right}
+
+-- a fingerprint as its power and its value
+abbrev pub print-of : List ℕ → ℕ × ℕ
+print-of bytes = let t = total-of no-bytes one-byte bytes-joined bytes in (t .power, t .value)
+
+-- a call and its answer
+abbrev pub Line : Type 0
+Line = Call ℕ × Answer ℕ (ℕ × ℕ)
+
+pub record Case : Type 0 where
+  pub original : List ℕ
+  pub capacities : Capacities
+  pub lines : List Line
+
+abbrev pub case : List ℕ → Capacities → List Line → Case
+case original capacities lines = record { original = original; capacities = capacities; lines = lines }
+
+abbrev pub does : Call ℕ → Line
+does call = (call, done)
+
+-- the bytes from an offset on
+abbrev pub reads : ℕ → List ℕ → List Line
+reads x [] = []
+reads x (b ∷ bs) = (asking (element-at x), element b) ∷ reads (suc x) bs
+
+-- the whole text
+abbrev pub shows : List ℕ → List Line
+shows bytes = (asking text-length, number (length bytes)) ∷ reads 0 bytes
+
+abbrev pub pieces : ℕ → Line
+pieces n = (asking piece-count, number n)
+
+abbrev pub runs : ℕ → Line
+runs n = (asking run-count, number n)
+
+abbrev pub current : ℕ → Line
+current n = (asking current-version, number n)
+
+-- two lines: a b break, c d break
+abbrev pub copy : List ℕ
+copy = 97 ∷ 98 ∷ 10 ∷ 99 ∷ 100 ∷ 10 ∷ []
+
+abbrev pub ample : Capacities
+ample = capacities-of 64 64 64 64 64
+
+-- the bytes X and Y, and the marks a and b
+abbrev pub X : List ℕ
+X = 88 ∷ []
+
+abbrev pub Y : List ℕ
+Y = 89 ∷ []
+
+abbrev pub a-mark : ℕ
+a-mark = 97
+
+abbrev pub b-mark : ℕ
+b-mark = 98
+
+abbrev pub cases : List Case
+cases =
+    -- an insert at the start stands before the original
+    case copy ample (does opening ∷ does (inserting 0 X) ∷ (shows (88 ∷ copy) ++ (pieces 2 ∷ [])))
+    -- typing on goes on with the same piece
+    ∷ case copy ample (does opening ∷ does (inserting 2 X) ∷ does (inserting 3 Y) ∷ (shows (97 ∷ 98 ∷ 88 ∷ 89 ∷ 10 ∷ 99 ∷ 100 ∷ 10 ∷ []) ++ (pieces 3 ∷ [])))
+    -- typing before what was typed begins another
+    ∷ case copy ample (does opening ∷ does (inserting 2 X) ∷ does (inserting 2 Y) ∷ (shows (97 ∷ 98 ∷ 89 ∷ 88 ∷ 10 ∷ 99 ∷ 100 ∷ 10 ∷ []) ++ (pieces 4 ∷ [])))
+    -- a delete keeps the pieces of the part that it removes
+    ∷ case copy ample
+    (does opening ∷ does (deleting 1 2)
+    ∷ (shows (97 ∷ 99 ∷ 100 ∷ 10 ∷ []) ++ (pieces 2 ∷ runs 1 ∷ does (deleting 0 2) ∷ (shows (100 ∷ 10 ∷ []) ++ (pieces 1 ∷ runs 3 ∷ [])))))
+    -- marks go with what is inserted by their gravity, and come back when a delete is retracted
+    ∷ case copy ample
+    (does opening ∷ does (setting a-mark 2 Right) ∷ does (setting b-mark 2 Left) ∷ does (inserting 2 X)
+    ∷ (asking (mark-named a-mark), mark-is (mark 3 Right)) ∷ (asking (mark-named b-mark), mark-is (mark 2 Left))
+    ∷ does (deleting 1 2)
+    ∷ (asking (mark-named a-mark), mark-is (mark 1 Right)) ∷ (asking (mark-named b-mark), mark-is (mark 1 Left))
+    ∷ does retracting
+    ∷ (asking (mark-named a-mark), mark-is (mark 3 Right)) ∷ (asking (mark-named b-mark), mark-is (mark 2 Left)) ∷ [])
+    -- lines count from 1, offsets from 0
+    ∷ case copy ample
+    ((asking (line-numbered 2), line 3 3) ∷ (asking (line-numbered 3), denied NoLine) ∷ (asking (element-at 6), denied PastTheText) ∷ [])
+    -- the fingerprint of the first line
+    ∷ case copy ample ((asking (part-total 0 3), total (29791, 97258)) ∷ [])
+    -- an empty text
+    ∷ case [] ample
+    ((asking text-length, number 0) ∷ (asking line-count, number 0) ∷ pieces 0 ∷ (asking tree-depth, depth-of 0) ∷ (asking (part-total 0 0), total (1, 0)) ∷ [])
+    -- redo takes the child that was last on the current path, and not the newest
+    ∷ case copy ample
+    (does opening ∷ does (inserting 0 X) ∷ does closing ∷ does undoing
+    ∷ does opening ∷ does (inserting 0 Y) ∷ does closing ∷ does undoing ∷ does redoing ∷ current 2
+    ∷ does (jumping 1) ∷ does undoing ∷ does redoing ∷ current 1 ∷ [])
+    -- cancelling gives back what the group added
+    ∷ case copy (capacities-of 1 64 64 64 64)
+    (does opening ∷ does (inserting 0 X) ∷ does cancelling ∷ does opening ∷ does (inserting 0 Y) ∷ (inserting 0 X, denied AddedFull) ∷ [])
+    ∷ []
+
+-- what the rules answer to the calls of a case, and what is written there
+abbrev pub answered : Case → List (Answer ℕ (ℕ × ℕ))
+answered c = answers (λ b. eqb b 10) print-of (begin (c .original) (c .capacities)) (map (λ l. l .0) (c .lines))
+
+abbrev pub written : Case → List (Answer ℕ (ℕ × ℕ))
+written c = map (λ l. l .1) (c .lines)
+
+-- in every case the rules answer what is written there, and a tree without pieces has no depth but 0
+pub record Worked : Type 0 where
+  pub answers-hold : map answered cases ≡ map written cases
+  pub empty-is-flat : (d : ℕ) → Shallow 0 d → d ≡ 0

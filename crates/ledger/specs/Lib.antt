@@ -1,0 +1,10 @@
+pub mod Names
+pub mod Denials
+pub mod Places
+pub mod Steps
+pub mod History
+pub mod Ledgers
+pub mod Calls
+pub mod Answers
+pub mod Making
+pub mod Cases
