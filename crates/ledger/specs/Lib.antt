@@ -8,3 +8,4 @@ pub mod Calls
 pub mod Answers
 pub mod Making
 pub mod Cases
+pub mod Laws
