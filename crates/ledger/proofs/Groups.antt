@@ -9,7 +9,7 @@ use Rattle.std.proofs.shelf.Lists.{append-nil, take-at, length-take-le}
 use Rattle.std.specs.declared.option.Option.{Option}
 use Rattle.std.specs.declared.option.Option.the-variants.{None, Some}
 use Rattle.ledger.specs.Calls.{Call, Question, opening, closing, cancelling, inserting, deleting, setting, dropping, retracting, undoing, redoing, jumping, asking, tests, denial, effect, next, run, unless-denied, with-group, with-step}
-use Rattle.ledger.specs.Laws.{Inside, Retracting, is-step, stays-inside}
+use Rattle.ledger.specs.Laws.{Inside, Retracting, Unchanging, is-step, stays-inside}
 use Rattle.ledger.specs.Ledgers.{Ledger, is-open, steps-open}
 use Rattle.ledger.specs.Steps.{added-by, all-added, mark}
 use Rattle.ledger.specs.declared.denial.Denial.{Denial}
@@ -71,7 +71,18 @@ module _ {E : Type 0} (breaks : E → Bool) where
   pub accepted-next : (l : Ledger E) (call : Call E) → denial breaks l call ≡ None → next breaks l call ≡ effect l call
   accepted-next l call e = ap (λ d. unless-denied d l (effect l call)) e
 
-  -- the step of a call and what it adds
+  -- what a question leaves, denied or not
+  asked : (l : Ledger E) (d : Option Denial) → unless-denied d l l ≡ l
+  asked l None = refl
+  asked l (Some d) = refl
+
+  pub unchanging : Unchanging breaks
+  unchanging = record {
+    when-denied = λ l call d e. ap (λ found. unless-denied found l (effect l call)) e;
+    when-asked = λ l q. asked l (denial breaks l (asking q));
+  }
+
+  -- an accepted step is taken back
   taken-back : (l : Ledger E) (call : Call E) → is-step call ≡ true → is-open (l .group) ≡ true → (denial breaks (effect l call) retracting ≡ None) × (next breaks (effect l call) retracting ≡ l)
   taken-back l (inserting x new) made open-now = (refl, unstep l (Insert x (length new) (length (l .added))) new refl open-now)
   taken-back l (deleting x n) made open-now = (refl, unstep l (Delete x n) [] refl open-now)

@@ -1,4 +1,4 @@
-// The laws of the rules. A law has no work to do: each function's contract is the law, so that the check asks for its proof.
+// The laws of the rules. A law has no work to do: it stands in a function's contract, so that the check asks for its proof.
 ghost use mathlib.Core.Path.{_≡_};
 ghost use lib.ListN.{length};
 ghost use mathlib.Core.Bool.{true};
@@ -16,25 +16,14 @@ pub fn worked_cases() -> usize
     10
 }
 
-// A denied call changes nothing, and neither does a question.
-pub fn denial_changes_nothing<E: Element>() -> bool
-    ensures law { λ _. ⌜ Unchanging (E·Element .breaks) ⌝ }
-    ensures held { λ r. ⌜ r ≡ true ⌝ }
-{
-    true
-}
-
-// Retracting a step gives the ledger before it.
-pub fn retracting_gives_back<E: Element>() -> bool
-    ensures law { λ _. ⌜ Retracting (E·Element .breaks) ⌝ }
-    ensures held { λ r. ⌜ r ≡ true ⌝ }
-{
-    true
-}
-
-// A cancelled group can be struck out of any list of calls: every call left gets the same answer.
-pub fn cancelled_group_leaves_nothing<E: Element, T: Measure<E>>() -> bool
-    ensures law { λ _. ⌜ Striking (E·Element .breaks) (total (T·Total .neutral) (T·Measure .value) (T·Total .joined)) ⌝ }
+// The laws of the rules, over any calls.
+pub fn rules_hold<E: Element, T: Measure<E>>() -> bool
+    // a denied call changes nothing, and neither does a question
+    ensures unchanging { λ _. ⌜ Unchanging (E·Element .breaks) ⌝ }
+    // retracting a step gives the ledger before it
+    ensures retracting { λ _. ⌜ Retracting (E·Element .breaks) ⌝ }
+    // a cancelled group can be struck out of any list of calls: every call left gets the same answer
+    ensures striking { λ _. ⌜ Striking (E·Element .breaks) (total (T·Total .neutral) (T·Measure .value) (T·Total .joined)) ⌝ }
     ensures held { λ r. ⌜ r ≡ true ⌝ }
 {
     true

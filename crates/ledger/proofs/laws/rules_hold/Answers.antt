@@ -1,0 +1,16 @@
+use mathlib.Core.Path.{refl}
+use borrow.Author.Needs.{needs}
+use Rattle.measure.specs.Totals.{total}
+use Rattle.ledger.proofs.Groups.{retracts, unchanging}
+use Rattle.ledger.proofs.Runs.{strikes}
+use Rattle.ledger.proofs.laws.rules_hold.Needs as need
+
+pub returns : need.returns
+returns g c =
+    let breaks = g .E·Element .breaks in
+    record {
+      unchanging = unchanging breaks;
+      retracting = retracts breaks;
+      striking = strikes breaks (total (g .T·Total .neutral) (g .T·Measure .value) (g .T·Total .joined));
+      held = search needs;
+    }
