@@ -8,11 +8,12 @@ use Rattle.std.specs.declared.option.Option.the-variants.{None, Some}
 use Rattle.measure.specs.Fingerprints.{no-bytes, one-byte, bytes-joined}
 use Rattle.measure.specs.Totals.{total as total-of}
 use Rattle.ledger.specs.Answers.{Answer, Shallow, answers, done, denied, number, element, mark as mark-is, line, total, depth-of}
-use Rattle.ledger.specs.Calls.{Call, opening, closing, cancelling, inserting, deleting, setting, retracting, undoing, redoing, jumping, asking, text-length, element-at, mark-named, line-count, line-numbered, part-total, piece-count, tree-depth, run-count, current-version}
+use Rattle.ledger.specs.Calls.{Call, opening, closing, cancelling, inserting, deleting, setting, dropping, retracting, undoing, redoing, jumping, asking, text-length, element-at, mark-named, line-count, line-numbered, part-total, piece-count, tree-depth, run-count, current-version}
 use Rattle.ledger.specs.Ledgers.{begin}
 use Rattle.ledger.specs.Making.{capacities-of}
 use Rattle.ledger.specs.Steps.{mark}
-use Rattle.ledger.specs.declared.denial.Denial.the-variants.{PastTheText, NoLine, AddedFull}
+use Rattle.ledger.specs.declared.denial.Denial.{Denial}
+use Rattle.ledger.specs.declared.denial.Denial.the-variants.{PastTheText, Nothing, AddedFull, PiecesFull, StepsFull, RunsFull, VersionsFull, AtVersionZero, NoChild, NoVersion, NoStep, MarkNotSet, NoMarkName, NoLine, GroupOpen, NoGroup}
 use Rattle.ledger.specs.declared.words.Capacities.{Capacities}
 use Rattle.ledger.specs.declared.words.Gravity.the-variants.{Left, Right}
 
@@ -111,6 +112,38 @@ cases =
     (does opening ∷ does (inserting 0 X) ∷ does cancelling ∷ does opening ∷ does (inserting 0 Y) ∷ (inserting 0 X, denied AddedFull) ∷ [])
     ∷ []
 
+-- a call that is denied
+abbrev pub denies : Denial → Call ℕ → Line
+denies d call = (call, denied d)
+
+-- The order in which the denials of a call are tested: the condition of the number given holds, and so do those of later ones.
+abbrev pub orders : List Case
+orders =
+    -- outside a group
+    case copy ample
+    (denies NoGroup (inserting 9 []) ∷ denies NoGroup (deleting 9 0) ∷ denies NoGroup (setting 65 9 Left) ∷ denies NoGroup (dropping 65)
+    ∷ denies NoGroup retracting ∷ denies AtVersionZero undoing ∷ denies NoChild redoing ∷ denies NoVersion (jumping 1) ∷ does closing ∷ does cancelling ∷ [])
+    -- inside a group
+    ∷ case copy ample
+    (does opening ∷ denies GroupOpen opening ∷ denies GroupOpen undoing ∷ denies GroupOpen redoing ∷ denies GroupOpen (jumping 1) ∷ denies NoStep retracting ∷ [])
+    -- an insert: of nothing, past the text, steps, added elements, pieces
+    ∷ case copy (capacities-of 0 1 64 0 64) (does opening ∷ denies Nothing (inserting 9 []) ∷ denies PastTheText (inserting 9 X) ∷ denies StepsFull (inserting 0 X) ∷ [])
+    ∷ case copy (capacities-of 0 1 64 64 64) (does opening ∷ denies AddedFull (inserting 0 X) ∷ [])
+    ∷ case copy (capacities-of 1 1 64 64 64) (does opening ∷ denies PiecesFull (inserting 6 X) ∷ [])
+    -- a delete: of nothing, past the text, steps, kept runs, pieces
+    ∷ case copy (capacities-of 64 1 64 0 0) (does opening ∷ denies Nothing (deleting 9 0) ∷ denies PastTheText (deleting 1 6) ∷ denies StepsFull (deleting 1 2) ∷ [])
+    ∷ case copy (capacities-of 64 1 64 64 0) (does opening ∷ denies RunsFull (deleting 1 2) ∷ [])
+    ∷ case copy (capacities-of 64 1 64 64 1) (does opening ∷ denies PiecesFull (deleting 1 2) ∷ does (deleting 0 6) ∷ [])
+    -- marks: the name, past the text or not set, steps; a mark may stand at the text's end
+    ∷ case copy (capacities-of 64 64 64 1 64)
+    (does opening ∷ denies NoMarkName (setting 96 7 Left) ∷ denies NoMarkName (setting 123 7 Left) ∷ denies PastTheText (setting 122 7 Left)
+    ∷ denies NoMarkName (dropping 123) ∷ denies MarkNotSet (dropping 122) ∷ does (setting 122 6 Left)
+    ∷ denies PastTheText (setting 97 7 Left) ∷ denies StepsFull (setting 97 6 Left) ∷ denies MarkNotSet (dropping 97) ∷ denies StepsFull (dropping 122)
+    ∷ denies NoMarkName (asking (mark-named 123)) ∷ denies MarkNotSet (asking (mark-named 97)) ∷ [])
+    -- versions: no more than their capacity, version 0 included
+    ∷ case copy (capacities-of 64 64 2 64 64) (does opening ∷ does (deleting 0 1) ∷ does closing ∷ denies VersionsFull opening ∷ current 1 ∷ [])
+    ∷ []
+
 -- what the rules answer to the calls of a case, and what is written there
 abbrev pub answered : Case → List (Answer ℕ (ℕ × ℕ))
 answered c = answers (λ b. eqb b 10) print-of (begin (c .original) (c .capacities)) (map (λ l. l .0) (c .lines))
@@ -120,5 +153,5 @@ written c = map (λ l. l .1) (c .lines)
 
 -- in every case the rules answer what is written there, and a tree without pieces has no depth but 0
 pub record Worked : Type 0 where
-  pub answers-hold : map answered cases ≡ map written cases
+  pub answers-hold : map answered (cases ++ orders) ≡ map written (cases ++ orders)
   pub empty-is-flat : (d : ℕ) → Shallow 0 d → d ≡ 0

@@ -1,19 +1,20 @@
 // The laws of the rules. A law has no work to do: it stands in a function's contract, so that the check asks for its proof.
 ghost use mathlib.Core.Path.{_≡_};
+ghost use mathlib.Core.List.{_++_};
 ghost use lib.ListN.{length};
 ghost use mathlib.Core.Bool.{true};
 ghost use Rattle.measure.specs.Totals.{total};
 ghost use Rattle.ledger.specs.Laws.{Retracting, Striking, Unchanging};
-ghost use Rattle.ledger.specs.Cases.{Worked, cases};
+ghost use Rattle.ledger.specs.Cases.{Worked, cases, orders};
 use element::Element;
 use measure::Measure;
 
 // In every worked case the rules answer what is written there. Gives the number of cases.
 pub fn worked_cases() -> usize
     ensures law { λ _. ⌜ Worked ⌝ }
-    ensures count { λ r. ⌜ r ≡ length cases ⌝ }
+    ensures count { λ r. ⌜ r ≡ length (cases ++ orders) ⌝ }
 {
-    10
+    20
 }
 
 // The laws of the rules, over any calls.
