@@ -1,6 +1,7 @@
 // Numbers and short lines, written as bytes into a buffer of the caller's. Nothing is allocated. A writer takes the place to write at and
 // answers where its bytes end; where they do not fit it writes nothing, and answers `None`.
 ghost use mathlib.Core.Path.{_≡_};
+ghost use mathlib.Core.List.{[], _∷_, _++_};
 ghost use Prim.Native.Nat.{_+_, _%_, _≤_};
 ghost use lib.Dec.{leb};
 ghost use lib.ListN.{length};
@@ -96,42 +97,49 @@ pub fn write_decimal(out: &mut [u8], at: usize, n: u64) -> Option<usize>
     Some(at + width)
 }
 
+// Writes a number in decimal between two texts.
+fn write_between(out: &mut [u8], at: usize, head: &[u8], n: u64, tail: &[u8]) -> Option<usize>
+    ensures { λ r. ⌜ Put (now (out .entry)) (now (out .exit)) at (now (head .entry) ++ (decimal n ++ now (tail .entry))) r ⌝ }
+{
+    if !has_room(out.len(), at, head.len()) {
+        return None;
+    }
+    let width = decimal_width(n);
+    if !has_room(out.len(), at + head.len(), width) {
+        return None;
+    }
+    if !has_room(out.len(), at + head.len() + width, tail.len()) {
+        return None;
+    }
+    let Some(head_end) = put(out, at, head) else {
+        return None;
+    };
+    let Some(number_end) = write_decimal(out, head_end, n) else {
+        return None;
+    };
+    put(out, number_end, tail)
+}
+
 // Writes a denial at `at`: a question mark, its number in decimal, the end of the line.
 pub fn write_denial(out: &mut [u8], at: usize, number: u8) -> Option<usize>
     ensures { λ r. ⌜ Put (now (out .entry)) (now (out .exit)) at (denial-line number) r ⌝ }
 {
-    let number = number as u64;
-    if !has_room(out.len(), at, 1 + decimal_width(number) + 1) {
-        return None;
-    }
-    let Some(mark_end) = put(out, at, b"?") else {
-        return None;
-    };
-    let Some(number_end) = write_decimal(out, mark_end, number) else {
-        return None;
-    };
-    put(out, number_end, b"\n")
+    write_between(out, at, b"?", number as u64, b"\n")
+}
+
+// The digits of a value, and a space after them.
+fn spaced(value: u32) -> [u8; 9]
+    ensures { λ r. ⌜ r ≡ hex8 value ++ (32 ∷ []) ⌝ }
+{
+    let [a, b, c, d, e, f, g, h] = hexadecimal(value);
+    [a, b, c, d, e, f, g, h, b' ']
 }
 
 // Writes totals at `at`: the value in hexadecimal, a space, the tally in decimal, the end of the line.
 pub fn write_totals(out: &mut [u8], at: usize, value: u32, tally: u32) -> Option<usize>
     ensures { λ r. ⌜ Put (now (out .entry)) (now (out .exit)) at (totals-line value tally) r ⌝ }
 {
-    let digits = hexadecimal(value);
-    let tally = tally as u64;
-    if !has_room(out.len(), at, 8 + 1 + decimal_width(tally) + 1) {
-        return None;
-    }
-    let Some(value_end) = put(out, at, &digits) else {
-        return None;
-    };
-    let Some(space_end) = put(out, value_end, b" ") else {
-        return None;
-    };
-    let Some(tally_end) = write_decimal(out, space_end, tally) else {
-        return None;
-    };
-    put(out, tally_end, b"\n")
+    write_between(out, at, &spaced(value), tally as u64, b"\n")
 }
 
 #[cfg(test)]
