@@ -9,3 +9,4 @@ pub mod Answers
 pub mod Making
 pub mod Cases
 pub mod Laws
+pub mod Moments

@@ -5,6 +5,7 @@ ghost use lib.ListN.{length};
 ghost use mathlib.Core.Bool.{true};
 ghost use Rattle.measure.specs.Totals.{total};
 ghost use Rattle.ledger.specs.Laws.{Retracting, Striking, Unchanging};
+ghost use Rattle.ledger.specs.Moments.{Stands};
 ghost use Rattle.ledger.specs.Cases.{Worked, cases, orders};
 use element::Element;
 use measure::Measure;
@@ -25,6 +26,9 @@ pub fn rules_hold<E: Element, T: Measure<E>>() -> bool
     ensures retracting { λ _. ⌜ Retracting (E·Element .breaks) ⌝ }
     // a cancelled group can be struck out of any list of calls: every call left gets the same answer
     ensures striking { λ _. ⌜ Striking (E·Element .breaks) (total (T·Total .neutral) (T·Measure .value) (T·Total .joined)) ⌝ }
+    // with no group open, text and marks are those that stood when the current version was made; and so stand those of every
+    // version, whichever is current
+    ensures standing { λ _. ⌜ Stands (E·Element .breaks) ⌝ }
     ensures held { λ r. ⌜ r ≡ true ⌝ }
 {
     true

@@ -3,6 +3,7 @@ use borrow.Author.Needs.{needs}
 use Rattle.measure.specs.Totals.{total}
 use Rattle.ledger.proofs.Groups.{retracts, unchanging}
 use Rattle.ledger.proofs.Runs.{strikes}
+use Rattle.ledger.proofs.Standing.{stands}
 use Rattle.ledger.proofs.laws.rules_hold.Needs as need
 
 pub returns : need.returns
@@ -12,5 +13,6 @@ returns g c =
       unchanging = unchanging breaks;
       retracting = retracts breaks;
       striking = strikes breaks (total (g .T·Total .neutral) (g .T·Measure .value) (g .T·Total .joined));
+      standing = stands breaks;
       held = search needs;
     }
