@@ -5,3 +5,7 @@ pub mod Sources
 pub mod Stories
 pub mod Effects
 pub mod Standing
+pub mod Histories
+pub mod Placings
+pub mod Held
+pub mod Reached

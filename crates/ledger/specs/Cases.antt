@@ -4,11 +4,12 @@ use mathlib.Core.List.{List, [], _∷_, _++_, map}
 use mathlib.Core.Path.{_≡_}
 use lib.Dec.{eqb}
 use lib.ListN.{length}
+use Rattle.std.specs.declared.option.Option.{Option}
 use Rattle.std.specs.declared.option.Option.the-variants.{None, Some}
 use Rattle.measure.specs.Fingerprints.{no-bytes, one-byte, bytes-joined}
 use Rattle.measure.specs.Totals.{total as total-of}
-use Rattle.ledger.specs.Answers.{Answer, Shallow, answers, done, denied, number, element, mark as mark-is, line, total, depth-of}
-use Rattle.ledger.specs.Calls.{Call, opening, closing, cancelling, inserting, deleting, setting, dropping, retracting, undoing, redoing, jumping, asking, text-length, element-at, mark-named, line-count, line-numbered, part-total, piece-count, tree-depth, run-count, current-version}
+use Rattle.ledger.specs.Answers.{Answer, Shallow, answers, done, denied, number, element, mark as mark-is, line, total, version, depth-of}
+use Rattle.ledger.specs.Calls.{Call, Question, opening, closing, cancelling, inserting, deleting, setting, dropping, retracting, undoing, redoing, jumping, asking, text-length, element-at, mark-named, line-count, line-numbered, line-holding, part-total, piece-count, tree-depth, added-count, step-count, run-count, current-version, highest-version, parent-of, favoured-of, steps-of}
 use Rattle.ledger.specs.Ledgers.{begin}
 use Rattle.ledger.specs.Making.{capacities-of}
 use Rattle.ledger.specs.Steps.{mark}
@@ -144,6 +145,42 @@ orders =
     ∷ case copy (capacities-of 64 64 2 64 64) (does opening ∷ does (deleting 0 1) ∷ does closing ∷ denies VersionsFull opening ∷ current 1 ∷ [])
     ∷ []
 
+-- a question and its number
+abbrev pub counts : Question → ℕ → Line
+counts q n = (asking q, number n)
+
+abbrev pub leads : Question → Option ℕ → Line
+leads q v = (asking q, version v)
+
+-- What the questions answer, at their edges.
+abbrev pub edges : List Case
+edges =
+    -- a last line without a break is a line
+    case (97 ∷ 10 ∷ 98 ∷ []) ample
+    (counts line-count 2 ∷ (asking (line-numbered 1), line 0 2) ∷ (asking (line-numbered 2), line 2 1)
+    ∷ denies NoLine (asking (line-numbered 0)) ∷ denies NoLine (asking (line-numbered 3))
+    ∷ counts (line-holding 0) 1 ∷ counts (line-holding 1) 1 ∷ counts (line-holding 2) 2 ∷ denies PastTheText (asking (line-holding 3))
+    ∷ (asking (part-total 3 3), total (1, 0)) ∷ denies PastTheText (asking (part-total 2 1)) ∷ denies PastTheText (asking (part-total 0 4)) ∷ [])
+    -- a delete keeps the runs of its own part, and of nothing behind it
+    ∷ case copy ample (does opening ∷ does (deleting 1 2) ∷ does (deleting 0 1) ∷ runs 2 ∷ [])
+    -- two children of version 0; what they use stays in use, whichever is current
+    ∷ case copy ample
+    (does opening ∷ does (inserting 0 X) ∷ does (setting a-mark 0 Left) ∷ does closing ∷ does undoing
+    ∷ does opening ∷ does (deleting 0 1) ∷ does closing
+    ∷ current 2 ∷ counts highest-version 2 ∷ counts added-count 1 ∷ counts step-count 3 ∷ runs 1
+    ∷ leads (parent-of 0) None ∷ leads (parent-of 1) (Some 0) ∷ leads (parent-of 2) (Some 0) ∷ denies NoVersion (asking (parent-of 3))
+    ∷ leads (favoured-of 0) (Some 2) ∷ leads (favoured-of 2) None ∷ denies NoVersion (asking (favoured-of 3))
+    ∷ counts (steps-of 0) 0 ∷ counts (steps-of 1) 2 ∷ counts (steps-of 2) 1 ∷ denies NoVersion (asking (steps-of 3))
+    ∷ does (jumping 1) ∷ leads (favoured-of 0) (Some 1) ∷ counts text-length 7 ∷ (asking (mark-named a-mark), mark-is (mark 0 Left))
+    ∷ does undoing ∷ denies MarkNotSet (asking (mark-named a-mark)) ∷ counts text-length 6 ∷ counts added-count 1 ∷ [])
+    -- an empty group makes no version
+    ∷ case copy ample (does opening ∷ does closing ∷ counts highest-version 0 ∷ does opening ∷ does cancelling ∷ counts highest-version 0 ∷ [])
+    ∷ []
+
+-- all of them
+abbrev pub all-cases : List Case
+all-cases = cases ++ (orders ++ edges)
+
 -- what the rules answer to the calls of a case, and what is written there
 abbrev pub answered : Case → List (Answer ℕ (ℕ × ℕ))
 answered c = answers (λ b. eqb b 10) print-of (begin (c .original) (c .capacities)) (map (λ l. l .0) (c .lines))
@@ -153,5 +190,5 @@ written c = map (λ l. l .1) (c .lines)
 
 -- in every case the rules answer what is written there, and a tree without pieces has no depth but 0
 pub record Worked : Type 0 where
-  pub answers-hold : map answered (cases ++ orders) ≡ map written (cases ++ orders)
+  pub answers-hold : map answered all-cases ≡ map written all-cases
   pub empty-is-flat : (d : ℕ) → Shallow 0 d → d ≡ 0

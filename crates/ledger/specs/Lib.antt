@@ -9,4 +9,5 @@ pub mod Answers
 pub mod Making
 pub mod Cases
 pub mod Laws
+pub mod Legal
 pub mod Moments
