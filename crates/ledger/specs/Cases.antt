@@ -11,10 +11,10 @@ use Rattle.measure.specs.Totals.{total as total-of}
 use Rattle.ledger.specs.Answers.{Answer, Shallow, answers, done, denied, number, element, mark as mark-is, line, total, version, depth-of}
 use Rattle.ledger.specs.Calls.{Call, Question, opening, closing, cancelling, inserting, deleting, setting, dropping, retracting, undoing, redoing, jumping, asking, text-length, element-at, mark-named, line-count, line-numbered, line-holding, part-total, piece-count, tree-depth, added-count, step-count, run-count, current-version, highest-version, parent-of, favoured-of, steps-of}
 use Rattle.ledger.specs.Ledgers.{begin}
-use Rattle.ledger.specs.Making.{capacities-of}
+use Rattle.ledger.specs.Making.{Room, capacities-of, check}
 use Rattle.ledger.specs.Steps.{mark}
 use Rattle.ledger.specs.declared.denial.Denial.{Denial}
-use Rattle.ledger.specs.declared.denial.Denial.the-variants.{PastTheText, Nothing, AddedFull, PiecesFull, StepsFull, RunsFull, VersionsFull, AtVersionZero, NoChild, NoVersion, NoStep, MarkNotSet, NoMarkName, NoLine, GroupOpen, NoGroup}
+use Rattle.ledger.specs.declared.denial.Denial.the-variants.{CapacityOutOfRange, TooFewRecords, OriginalTooLong, PastTheText, Nothing, AddedFull, PiecesFull, StepsFull, RunsFull, VersionsFull, AtVersionZero, NoChild, NoVersion, NoStep, MarkNotSet, NoMarkName, NoLine, GroupOpen, NoGroup}
 use Rattle.ledger.specs.declared.words.Capacities.{Capacities}
 use Rattle.ledger.specs.declared.words.Gravity.the-variants.{Left, Right}
 
@@ -188,7 +188,52 @@ answered c = answers (λ b. eqb b 10) print-of (begin (c .original) (c .capaciti
 abbrev pub written : Case → List (Answer ℕ (ℕ × ℕ))
 written c = map (λ l. l .1) (c .lines)
 
+-- the check before a making: the length of the original, the capacities, the memory, and what the check answers
+abbrev pub Trial : Type 0
+Trial = ℕ × Capacities × Room × Option Denial
+
+abbrev pub room-of : ℕ → ℕ → ℕ → ℕ → ℕ → Room
+room-of added places versions steps runs = record { added = added; places = places; versions = versions; steps = steps; runs = runs }
+
+abbrev pub none-at-all : Room
+none-at-all = room-of 0 0 0 0 0
+
+-- the least and the greatest capacities, and the memory that they need
+abbrev pub least : Capacities
+least = capacities-of 0 1 1 0 0
+
+abbrev pub least-room : Room
+least-room = room-of 0 9 1 0 0
+
+abbrev pub greatest : Capacities
+greatest = capacities-of 8388608 65536 65536 262144 262144
+
+abbrev pub greatest-room : Room
+greatest-room = room-of 8388608 65544 65536 262144 262144
+
+abbrev pub trials : List Trial
+trials =
+    (0, least, least-room, None)
+    ∷ (8388608, greatest, greatest-room, None)
+    -- each capacity outside its range, whatever else is wrong
+    ∷ (8388609, capacities-of 8388609 1 1 0 0, none-at-all, Some CapacityOutOfRange)
+    ∷ (8388609, capacities-of 0 0 1 0 0, none-at-all, Some CapacityOutOfRange)
+    ∷ (8388609, capacities-of 0 65537 1 0 0, none-at-all, Some CapacityOutOfRange)
+    ∷ (8388609, capacities-of 0 1 0 0 0, none-at-all, Some CapacityOutOfRange)
+    ∷ (8388609, capacities-of 0 1 65537 0 0, none-at-all, Some CapacityOutOfRange)
+    ∷ (8388609, capacities-of 0 1 1 262145 0, none-at-all, Some CapacityOutOfRange)
+    ∷ (8388609, capacities-of 0 1 1 0 262145, none-at-all, Some CapacityOutOfRange)
+    -- each kind of record one short
+    ∷ (8388609, greatest, room-of 8388607 65544 65536 262144 262144, Some TooFewRecords)
+    ∷ (8388609, greatest, room-of 8388608 65543 65536 262144 262144, Some TooFewRecords)
+    ∷ (8388609, greatest, room-of 8388608 65544 65535 262144 262144, Some TooFewRecords)
+    ∷ (8388609, greatest, room-of 8388608 65544 65536 262143 262144, Some TooFewRecords)
+    ∷ (8388609, greatest, room-of 8388608 65544 65536 262144 262143, Some TooFewRecords)
+    ∷ (8388609, greatest, greatest-room, Some OriginalTooLong)
+    ∷ []
+
 -- in every case the rules answer what is written there, and a tree without pieces has no depth but 0
 pub record Worked : Type 0 where
   pub answers-hold : map answered all-cases ≡ map written all-cases
+  pub checks-hold : map (λ t. check (t .0) (t .1) (t .2)) trials ≡ map (λ t. t .3) trials
   pub empty-is-flat : (d : ℕ) → Shallow 0 d → d ≡ 0

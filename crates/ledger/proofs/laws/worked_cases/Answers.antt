@@ -13,4 +13,4 @@ flat (suc d) shallow =
     absurd (omega arith)
 
 pub returns : need.returns
-returns c = record { law = record { answers-hold = refl; empty-is-flat = flat }; count = refl }
+returns c = record { law = record { answers-hold = refl; checks-hold = refl; empty-is-flat = flat }; count = refl }
