@@ -1,11 +1,9 @@
-pub mod Tables
+pub mod Calls
 pub mod Groups
-pub mod Runs
 pub mod Sources
-pub mod Stories
+pub mod Histories
+pub mod Paths
+pub mod Held
 pub mod Effects
 pub mod Standing
-pub mod Histories
-pub mod Placings
-pub mod Held
 pub mod Reached

@@ -1,8 +1,7 @@
 use mathlib.Core.Path.{refl}
 use borrow.Author.Needs.{needs}
 use Rattle.measure.specs.Totals.{total}
-use Rattle.ledger.proofs.Groups.{retracts, unchanging}
-use Rattle.ledger.proofs.Runs.{strikes}
+use Rattle.ledger.proofs.Groups.{retracts, strikes, unchanging}
 use Rattle.ledger.proofs.Reached.{reached-legal, redo-takes-undo-back, undo-takes-redo-back}
 use Rattle.ledger.proofs.Standing.{stands}
 use Rattle.ledger.proofs.laws.rules_hold.Needs as need
