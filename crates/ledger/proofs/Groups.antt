@@ -67,8 +67,9 @@ module _ {E : Type 0} (breaks : E → Bool) where
 
   pub retracts : Retracting breaks
   retracts l call made e =
-      subst (λ (m : Ledger E). (denial breaks m retracting ≡ None) × (next breaks m retracting ≡ l)) (sym (accepted-next breaks l call e))
-      (taken-back l call made (all-fail (tests breaks l call) e))
+      let back = subst (λ (m : Ledger E). (denial breaks m retracting ≡ None) × (next breaks m retracting ≡ l)) (sym (accepted-next breaks l call e))
+      (taken-back l call made (all-fail (tests breaks l call) e)) in
+      record { accepted = back .0; same = back .1 }
 
   -- a ledger, a group that is opened on it, and its cancelling
   module _ (l : Ledger E) where

@@ -17,7 +17,8 @@ use Rattle.ledger.proofs.Sources.{whole-text}
 use Rattle.ledger.specs.Calls.{Call, undoing, redoing, first-held, tests, denial, next, run, at-version, at-child, favoured-child, parent-or-zero}
 use Rattle.ledger.specs.History.{version-at, along}
 use Rattle.ledger.specs.Ledgers.{Ledger, begin}
-use Rattle.ledger.specs.Legal.{AlwaysLegal, Legal, TakenBack, TakesBack, Child}
+use Rattle.ledger.specs.Laws.{TakenBack}
+use Rattle.ledger.specs.Legal.{AlwaysLegal, Legal, TakesBack, Child}
 use Rattle.ledger.specs.Making.{Room, in-range, making-tests, check, make, capacities-of}
 use Rattle.ledger.specs.declared.denial.Denial.{Denial}
 use Rattle.ledger.specs.declared.denial.Denial.the-variants.{GroupOpen, NoChild, AtVersionZero}

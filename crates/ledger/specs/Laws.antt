@@ -53,11 +53,14 @@ pub record Unchanging {E : Type 0} (breaks : E → Bool) : Type 0 where
   pub when-denied : (l : Ledger E) (call : Call E) (d : Denial) → denial breaks l call ≡ Some d → next breaks l call ≡ l
   pub when-asked : (l : Ledger E) (q : Question) → next breaks l (asking q) ≡ l
 
--- Retracting an accepted step is accepted, and gives the ledger before the step.
+-- after the first call the second is accepted, and gives the very ledger from before the two
+pub record TakenBack {E : Type 0} (breaks : E → Bool) (l : Ledger E) (first second : Call E) : Type 0 where
+  pub accepted : denial breaks (next breaks l first) second ≡ None
+  pub same : next breaks (next breaks l first) second ≡ l
+
+-- Retracting takes an accepted step back.
 abbrev pub Retracting : {E : Type 0} → (E → Bool) → Type 0
-Retracting {E} breaks =
-    (l : Ledger E) (step : Call E) → is-step step ≡ true → denial breaks l step ≡ None
-    → (denial breaks (next breaks l step) retracting ≡ None) × (next breaks (next breaks l step) retracting ≡ l)
+Retracting {E} breaks = (l : Ledger E) (step : Call E) → is-step step ≡ true → denial breaks l step ≡ None → TakenBack breaks l step retracting
 
 -- A cancelled group, from its accepted opening to its cancelling with all between, leaves the ledger as it was. So it can be
 -- struck out of a list of calls, and every call that is left gets the same answer.

@@ -10,6 +10,7 @@ use Rattle.std.specs.declared.option.Option.{Option}
 use Rattle.std.specs.declared.option.Option.the-variants.{None, Some}
 use Rattle.ledger.specs.Calls.{Call, denial, next, run, favoured-child, parent-or-zero}
 use Rattle.ledger.specs.History.{Version, version-at, story, added-made}
+use Rattle.ledger.specs.Laws.{TakenBack}
 use Rattle.ledger.specs.Ledgers.{Ledger, steps-open, content, text, added-used, steps-used, runs-used}
 use Rattle.ledger.specs.Making.{Room, make}
 use Rattle.ledger.specs.Names.{is-name}
@@ -135,12 +136,7 @@ AlwaysLegal {E} breaks =
     (original : List E) (capacities : Capacities) (room : Room) (calls : List (Call E))
     → Legal (run breaks (make original capacities room) calls)
 
--- after the first call the second is accepted, and gives the very ledger from before the two
-pub record TakenBack {E : Type 0} (breaks : E → Bool) (l : Ledger E) (first second : Call E) : Type 0 where
-  pub accepted : denial breaks (next breaks l first) second ≡ None
-  pub same : next breaks (next breaks l first) second ≡ l
-
--- so in every ledger that calls reach from a new one, where the first call is accepted
+-- the second call takes the first back, in every ledger that calls reach from a new one, where the first is accepted
 abbrev pub TakesBack : {E : Type 0} → (E → Bool) → Call E → Call E → Type 0
 TakesBack {E} breaks first second =
     (original : List E) (capacities : Capacities) (room : Room) (calls : List (Call E))
