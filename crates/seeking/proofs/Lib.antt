@@ -1,0 +1,2 @@
+pub mod Shallow
+pub mod Standing
