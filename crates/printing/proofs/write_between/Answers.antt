@@ -4,19 +4,19 @@ use Rattle.printing.specs.Output.{Put}
 use Rattle.printing.proofs.Buffers.{join, join_last}
 use Rattle.printing.proofs.write_between.Goals as goal
 
-pub returns-then-not-has-room : goal.returns-then-not-has-room
-returns-then-not-has-room c =
+pub returns-then-not-has_room : goal.returns-then-not-has_room
+returns-then-not-has_room c =
     let behind = length-append c.args.head.now (decimal c.args.n ++ c.args.tail.now) in
     (search rules, refl)
 
-pub returns-then-not-has-room-2 : goal.returns-then-not-has-room-2
-returns-then-not-has-room-2 c =
+pub returns-then-not-has_room-2 : goal.returns-then-not-has_room-2
+returns-then-not-has_room-2 c =
     let behind = length-append c.args.head.now (decimal c.args.n ++ c.args.tail.now) in
     let last = length-append (decimal c.args.n) c.args.tail.now in
     (search rules, refl)
 
-pub returns-then-not-has-room-3 : goal.returns-then-not-has-room-3
-returns-then-not-has-room-3 c =
+pub returns-then-not-has_room-3 : goal.returns-then-not-has_room-3
+returns-then-not-has_room-3 c =
     let behind = length-append c.args.head.now (decimal c.args.n ++ c.args.tail.now) in
     let last = length-append (decimal c.args.n) c.args.tail.now in
     (search rules, refl)
@@ -29,6 +29,6 @@ returns c =
     let tail = c.args.tail.now in
     let digits = decimal c.args.n in
     let size = length-append head digits in
-    let front = join out c.put.new.out c.write-decimal.new.out c.args.at c.in-Some.head-end c.in-Some-write-decimal.number-end head digits c.in-Some.ensures c.in-Some-write-decimal.ensures in
+    let front = join out c.put.new.out c.write_decimal.new.out c.args.at c.in-Some.head_end c.in-Some-write_decimal.number_end head digits c.in-Some.ensures c.in-Some-write_decimal.ensures in
     subst (λ (bytes : List ℕ). Put out c.put-2.new.out c.args.at bytes c.put-2.result) (append_assoc head digits tail)
-    (join_last out c.write-decimal.new.out c.put-2.new.out c.args.at c.in-Some-write-decimal.number-end c.put-2.result (head ++ digits) tail (search rules) front c.put-2.ensures)
+    (join_last out c.write_decimal.new.out c.put-2.new.out c.args.at c.in-Some-write_decimal.number_end c.put-2.result (head ++ digits) tail (search rules) front c.put-2.ensures)

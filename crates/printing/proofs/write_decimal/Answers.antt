@@ -2,8 +2,8 @@ use Rattle.std.proofs.Common.{arith, rules}
 use Rattle.printing.proofs.Figures.{width_one, width_more, write_one, write_more}
 use Rattle.printing.proofs.write_decimal.Goals as goal
 
-pub overflow-sub-place : goal.overflow-sub-place
-overflow-sub-place c = let w = width_more c.loop-rest.rest (search rules) (search rules) in omega arith
+pub overflow_sub-place : goal.overflow_sub-place
+overflow_sub-place c = let w = width_more c.loop-rest.rest (search rules) (search rules) in omega arith
 
 pub bounds-out-place : goal.bounds-out-place
 bounds-out-place c = let w = width_more c.loop-rest.rest (search rules) (search rules) in search rules
