@@ -39,7 +39,7 @@ fn rotate_left<P: Copy, T: Total>(
     ensures items { items result ≡ items left ++ (box_value place).item ∷ items right }
     ensures long { long result ≡ long left + (box_value place).item.length + long right }
     ensures weighed { Weighed result }
-    ensures summed { Summed neutral joined left → Summed neutral joined right → Summed neutral joined result }
+    ensures summed { Summed T.neutral T.joined left → Summed T.neutral T.joined right → Summed T.neutral T.joined result }
     ensures blacks { blacks result ≡ 1 + blacks left }
     ensures legal { Legal result }
 {
@@ -70,7 +70,7 @@ fn balance_right<P: Copy, T: Total>(
     ensures items { items result ≡ items left ++ (box_value place).item ∷ items right }
     ensures long { long result ≡ long left + (box_value place).item.length + long right }
     ensures weighed { Weighed result }
-    ensures summed { Summed neutral joined left → Summed neutral joined right → Summed neutral joined result }
+    ensures summed { Summed T.neutral T.joined left → Summed T.neutral T.joined right → Summed T.neutral T.joined result }
     ensures blacks { blacks result ≡ 1 + blacks left }
     ensures legal { Legal result }
 {
@@ -104,7 +104,7 @@ pub fn join_right<P: Copy, T: Total>(
     ensures items { items result ≡ items left ++ (box_value place).item ∷ items right }
     ensures long { long result ≡ long left + (box_value place).item.length + long right }
     ensures weighed { Weighed result }
-    ensures summed { Summed neutral joined left → Summed neutral joined right → Summed neutral joined result }
+    ensures summed { Summed T.neutral T.joined left → Summed T.neutral T.joined right → Summed T.neutral T.joined result }
     ensures blacks { blacks result ≡ blacks left }
     ensures leans { LeansRight result }
     ensures legal { red left ≡ false → Legal result }
@@ -163,7 +163,7 @@ fn rotate_right<P: Copy, T: Total>(
     ensures items { items result ≡ items left ++ (box_value place).item ∷ items right }
     ensures long { long result ≡ long left + (box_value place).item.length + long right }
     ensures weighed { Weighed result }
-    ensures summed { Summed neutral joined left → Summed neutral joined right → Summed neutral joined result }
+    ensures summed { Summed T.neutral T.joined left → Summed T.neutral T.joined right → Summed T.neutral T.joined result }
     ensures blacks { blacks result ≡ 1 + blacks right }
     ensures legal { Legal result }
 {
@@ -194,7 +194,7 @@ fn balance_left<P: Copy, T: Total>(
     ensures items { items result ≡ items left ++ (box_value place).item ∷ items right }
     ensures long { long result ≡ long left + (box_value place).item.length + long right }
     ensures weighed { Weighed result }
-    ensures summed { Summed neutral joined left → Summed neutral joined right → Summed neutral joined result }
+    ensures summed { Summed T.neutral T.joined left → Summed T.neutral T.joined right → Summed T.neutral T.joined result }
     ensures blacks { blacks result ≡ 1 + blacks right }
     ensures legal { Legal result }
 {
@@ -228,7 +228,7 @@ pub fn join_left<P: Copy, T: Total>(
     ensures items { items result ≡ items left ++ (box_value place).item ∷ items right }
     ensures long { long result ≡ long left + (box_value place).item.length + long right }
     ensures weighed { Weighed result }
-    ensures summed { Summed neutral joined left → Summed neutral joined right → Summed neutral joined result }
+    ensures summed { Summed T.neutral T.joined left → Summed T.neutral T.joined right → Summed T.neutral T.joined result }
     ensures blacks { blacks result ≡ blacks right }
     ensures leans { LeansLeft result }
     ensures legal { red right ≡ false → Legal result }

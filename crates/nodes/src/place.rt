@@ -10,7 +10,7 @@ pub fn sums<P: Copy, T: Total>(tree: &Tree<P, T>) -> Sums<T>
     ensures length { result.length ≡ long tree.now }
     ensures breaks { result.breaks ≡ broken tree.now }
     ensures pieces { result.pieces ≡ placed tree.now }
-    ensures total { result.total ≡ whole neutral tree.now }
+    ensures total { result.total ≡ whole T.neutral tree.now }
 {
     match tree {
         Tree::Empty => Sums {
@@ -51,7 +51,7 @@ pub fn link<P: Copy, T: Total>(
     ensures items { items result ≡ items left ++ (box_value place).item ∷ items right }
     ensures long { long result ≡ long left + (box_value place).item.length + long right }
     ensures weighed { Weighed result }
-    ensures summed { Summed neutral joined left → Summed neutral joined right → Summed neutral joined result }
+    ensures summed { Summed T.neutral T.joined left → Summed T.neutral T.joined right → Summed T.neutral T.joined result }
     ensures colour { red result ≡ ruddy colour }
     ensures blacks { blacks result ≡ weight colour + blacks left }
     ensures legal { blacks left ≡ blacks right → Calm colour left → Calm colour right → Legal left → Legal right → Legal result }
@@ -92,7 +92,7 @@ pub fn blacken<P: Copy, T: Total>(tree: Tree<P, T>) -> Tree<P, T>
     ensures items { items result ≡ items tree }
     ensures long { long result ≡ long tree }
     ensures weighed { Weighed tree → Weighed result }
-    ensures summed { Summed neutral joined tree → Summed neutral joined result }
+    ensures summed { Summed T.neutral T.joined tree → Summed T.neutral T.joined result }
     ensures colour { red result ≡ false }
     ensures blacks { blacks result ≡ blacks tree + (if red tree then 1 else 0) }
     ensures legal { Legal tree → Legal result }

@@ -34,7 +34,7 @@ pub(crate) fn blackened<P: Copy, T: Total>(tree: Tree<P, T>, height: usize) -> T
     requires tall { height ≡ blacks tree }
     ensures items { items result.tree ≡ items tree }
     ensures long { long result.tree ≡ long tree }
-    ensures summed { Summed neutral joined tree → Summed neutral joined result.tree }
+    ensures summed { Summed T.neutral T.joined tree → Summed T.neutral T.joined result.tree }
     ensures legal { Legal tree → Sound result }
     ensures leant_right { LeansRight tree → Sound result }
     ensures leant_left { LeansLeft tree → Sound result }
@@ -60,7 +60,7 @@ pub(crate) fn join_tall<P: Copy, T: Total>(
     ensures items { items result.tree ≡ items left.tree ++ (box_value place).item ∷ items right.tree }
     ensures long { long result.tree ≡ long left.tree + (box_value place).item.length + long right.tree }
     ensures sound { Sound result }
-    ensures summed { Summed neutral joined left.tree → Summed neutral joined right.tree → Summed neutral joined result.tree }
+    ensures summed { Summed T.neutral T.joined left.tree → Summed T.neutral T.joined right.tree → Summed T.neutral T.joined result.tree }
 {
     if left.height >= right.height {
         let height = left.height;
@@ -90,7 +90,7 @@ pub fn join<P: Copy, T: Total>(
     ensures long { long result ≡ long left + (box_value place).item.length + long right }
     ensures weighed { Weighed result }
     ensures balanced { Balanced result }
-    ensures summed { Summed neutral joined left → Summed neutral joined right → Summed neutral joined result }
+    ensures summed { Summed T.neutral T.joined left → Summed T.neutral T.joined right → Summed T.neutral T.joined result }
 {
     let left = tall(left);
     let right = tall(right);

@@ -21,7 +21,7 @@ fn split_tall<P: Copy, T: Total>(whole: Tall<P, T>, offset: usize) -> TallSplit<
     ensures fair { Fair (box_value result.place).item }
     ensures left { Sound result.left }
     ensures right { Sound result.right }
-    ensures summed { Summed neutral joined whole.tree → Summed neutral joined result.left.tree × Summed neutral joined result.right.tree }
+    ensures summed { Summed T.neutral T.joined whole.tree → Summed T.neutral T.joined result.left.tree × Summed T.neutral T.joined result.right.tree }
 {
     let Tall { tree, height } = whole;
     match tree {
@@ -75,7 +75,7 @@ pub fn split<P: Copy, T: Total>(tree: Tree<P, T>, offset: usize) -> Split<P, T>
     ensures fair { Fair (box_value result.place).item }
     ensures weighed { (Weighed result.left) × (Weighed result.right) }
     ensures balanced { (Balanced result.left) × (Balanced result.right) }
-    ensures summed { Summed neutral joined tree → Summed neutral joined result.left × Summed neutral joined result.right }
+    ensures summed { Summed T.neutral T.joined tree → Summed T.neutral T.joined result.left × Summed T.neutral T.joined result.right }
 {
     let whole = tall(tree);
     let part = split_tall(whole, offset);
@@ -107,7 +107,7 @@ pub fn take_first<P: Copy, T: Total>(tree: Tree<P, T>) -> (Box<Node<P, T>>, Tree
     ensures fair { Fair (box_value result.0).item }
     ensures weighed { Weighed result.1 }
     ensures balanced { Balanced result.1 }
-    ensures summed { Summed neutral joined tree → Summed neutral joined result.1 }
+    ensures summed { Summed T.neutral T.joined tree → Summed T.neutral T.joined result.1 }
 {
     let part = split(tree, 0);
     (part.place, part.right)
@@ -125,7 +125,7 @@ pub fn take_last<P: Copy, T: Total>(tree: Tree<P, T>) -> (Tree<P, T>, Box<Node<P
     ensures fair { Fair (box_value result.1).item }
     ensures weighed { Weighed result.0 }
     ensures balanced { Balanced result.0 }
-    ensures summed { Summed neutral joined tree → Summed neutral joined result.0 }
+    ensures summed { Summed T.neutral T.joined tree → Summed T.neutral T.joined result.0 }
 {
     let length = sums(&tree).length;
     let part = split(tree, length - 1);
@@ -143,7 +143,7 @@ pub fn concat<P: Copy, T: Total>(left: Tree<P, T>, right: Tree<P, T>) -> Tree<P,
     ensures long { long result ≡ long left + long right }
     ensures weighed { Weighed result }
     ensures balanced { Balanced result }
-    ensures summed { Summed neutral joined left → Summed neutral joined right → Summed neutral joined result }
+    ensures summed { Summed T.neutral T.joined left → Summed T.neutral T.joined right → Summed T.neutral T.joined result }
 {
     if sums(&right).length == 0 {
         return left;

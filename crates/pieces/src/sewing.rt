@@ -36,11 +36,11 @@ fn join_ends<T: Total>(
     requires fair { (Fair (box_value last).item) × (Fair (box_value first).item) }
     requires fits { long front + (box_value last).item.length + (box_value first).item.length + long back < 2 ^ 64 }
     requires room { vec_len stock.old < vec_capacity stock.old }
-    ensures items { items result ≡ items front ++ sewn_on joined (box_value last).item ((box_value first).item ∷ items back) }
+    ensures items { items result ≡ items front ++ sewn_on T.joined (box_value last).item ((box_value first).item ∷ items back) }
     ensures long { long result ≡ long front + (box_value last).item.length + (box_value first).item.length + long back }
     ensures weighed { Weighed result }
     ensures balanced { Balanced result }
-    ensures summed { Summed neutral joined front → Summed neutral joined back → Summed neutral joined result }
+    ensures summed { Summed T.neutral T.joined front → Summed T.neutral T.joined back → Summed T.neutral T.joined result }
     ensures stock { vec_len stock.new + length (items result) ≡ vec_len stock.old + (length (items front) + length (items back) + 2) }
     ensures capacity { vec_capacity stock.new ≡ vec_capacity stock.old }
 {
@@ -73,11 +73,11 @@ pub fn sew<T: Total>(
     requires right_balanced { Balanced right }
     requires fits { long left + long right < 2 ^ 64 }
     requires room { vec_len stock.old + (length (items left) + length (items right)) ≤ vec_capacity stock.old }
-    ensures items { items result ≡ sewn joined (items left) (items right) }
+    ensures items { items result ≡ sewn T.joined (items left) (items right) }
     ensures long { long result ≡ long left + long right }
     ensures weighed { Weighed result }
     ensures balanced { Balanced result }
-    ensures summed { Summed neutral joined left → Summed neutral joined right → Summed neutral joined result }
+    ensures summed { Summed T.neutral T.joined left → Summed T.neutral T.joined right → Summed T.neutral T.joined result }
     ensures stock { vec_len stock.new + length (items result) ≡ vec_len stock.old + (length (items left) + length (items right)) }
     ensures capacity { vec_capacity stock.new ≡ vec_capacity stock.old }
 {

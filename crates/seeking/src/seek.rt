@@ -13,7 +13,7 @@ pub fn summary<P: Copy, T: Total>(tree: &Tree<P, T>) -> Sums<T>
     ensures elements { result.length ≡ elements_in (items tree.now) }
     ensures breaks { result.breaks ≡ breaks_in (items tree.now) }
     ensures pieces { result.pieces ≡ length (items tree.now) }
-    ensures total { Summed neutral joined tree.now → result.total ≡ total_of neutral joined (items tree.now) }
+    ensures total { Summed T.neutral T.joined tree.now → result.total ≡ total_of T.neutral T.joined (items tree.now) }
 {
     sums(tree)
 }
@@ -27,7 +27,7 @@ fn through<P: Copy, T: Total>(before: Sums<T>, item: Item<P, T>, after: Sums<T>)
     ensures length { result.length ≡ before.length + item.length + after.length }
     ensures breaks { result.breaks ≡ before.breaks + item.breaks + after.breaks }
     ensures pieces { result.pieces ≡ before.pieces + 1 + after.pieces }
-    ensures total { result.total ≡ joined (joined before.total item.total) after.total }
+    ensures total { result.total ≡ T.joined (T.joined before.total item.total) after.total }
 {
     Sums {
         length: before.length + item.length + after.length,
@@ -42,7 +42,7 @@ pub fn find<P: Copy, T: Total>(tree: &Tree<P, T>, offset: usize) -> Found<P, T>
     requires weighed { Weighed tree.now }
     requires within { offset < long tree.now }
     requires fits { long tree.now < 2 ^ 64 }
-    ensures stands { Stands neutral joined tree.now result }
+    ensures stands { Stands T.neutral T.joined tree.now result }
     ensures offset { result.before.length + result.inner ≡ offset }
     ensures inner { result.inner < result.item.length }
     ensures ends { result.before.length + result.item.length ≤ long tree.now }
@@ -78,7 +78,7 @@ pub fn find_break<P: Copy, T: Total>(tree: &Tree<P, T>, number: usize) -> Found<
     requires weighed { Weighed tree.now }
     requires within { number < broken tree.now }
     requires fits { long tree.now < 2 ^ 64 }
-    ensures stands { Stands neutral joined tree.now result }
+    ensures stands { Stands T.neutral T.joined tree.now result }
     ensures number { result.before.breaks + result.inner ≡ number }
     ensures inner { result.inner < result.item.breaks }
     ensures ends { result.before.length + result.item.length ≤ long tree.now }

@@ -11,10 +11,10 @@ returns-else-tall-low g t c =
       items = cc;
       long = search rules;
       weighed = search rules;
-      summed = λ l r. let sides = sides_summed g.T.Total.neutral g.T.Total.joined c.in-Place.is c.unlink-top.ensures.left c.unlink-top.ensures.right r in c.balance-left.ensures.summed (c.join-left-grown.ensures.summed l sides.0) sides.1;
+      summed = λ l r. let sides = sides_summed g.T.Total.neutral g.T.Total.joined c.in-Place.is c.unlink-top.ensures.left c.unlink-top.ensures.right r in c.balance_left.ensures.summed (c.join_left-grown.ensures.summed l sides.0) sides.1;
       blacks = search rules;
       leans = search rules;
-      legal = λ _. c.balance-left.ensures.legal;
+      legal = λ _. c.balance_left.ensures.legal;
     }
 
 pub returns-in-Red : goal.returns-in-Red
@@ -25,7 +25,7 @@ returns-in-Red g t c =
       items = cc;
       long = search rules;
       weighed = search rules;
-      summed = λ l r. let sides = sides_summed g.T.Total.neutral g.T.Total.joined c.in-Place.is c.unlink-top-in-Red.ensures.left c.unlink-top-in-Red.ensures.right r in c.link-in-Red.ensures.summed (c.join-left-grown-in-Red.ensures.summed l sides.0) sides.1;
+      summed = λ l r. let sides = sides_summed g.T.Total.neutral g.T.Total.joined c.in-Place.is c.unlink-top-in-Red.ensures.left c.unlink-top-in-Red.ensures.right r in c.link-in-Red.ensures.summed (c.join_left-grown-in-Red.ensures.summed l sides.0) sides.1;
       blacks = search rules;
       leans = search rules;
       legal = search rules;

@@ -11,10 +11,10 @@ returns-else-tall-low g t c =
       items = cc;
       long = search rules;
       weighed = search rules;
-      summed = λ l r. let sides = sides_summed g.T.Total.neutral g.T.Total.joined c.in-Place.is c.unlink-top.ensures.left c.unlink-top.ensures.right l in c.balance-right.ensures.summed sides.0 (c.join-right-grown.ensures.summed sides.1 r);
+      summed = λ l r. let sides = sides_summed g.T.Total.neutral g.T.Total.joined c.in-Place.is c.unlink-top.ensures.left c.unlink-top.ensures.right l in c.balance_right.ensures.summed sides.0 (c.join_right-grown.ensures.summed sides.1 r);
       blacks = search rules;
       leans = search rules;
-      legal = λ _. c.balance-right.ensures.legal;
+      legal = λ _. c.balance_right.ensures.legal;
     }
 
 pub returns-in-Red : goal.returns-in-Red
@@ -25,7 +25,7 @@ returns-in-Red g t c =
       items = cc;
       long = search rules;
       weighed = search rules;
-      summed = λ l r. let sides = sides_summed g.T.Total.neutral g.T.Total.joined c.in-Place.is c.unlink-top-in-Red.ensures.left c.unlink-top-in-Red.ensures.right l in c.link-in-Red.ensures.summed sides.0 (c.join-right-grown-in-Red.ensures.summed sides.1 r);
+      summed = λ l r. let sides = sides_summed g.T.Total.neutral g.T.Total.joined c.in-Place.is c.unlink-top-in-Red.ensures.left c.unlink-top-in-Red.ensures.right l in c.link-in-Red.ensures.summed sides.0 (c.join_right-grown-in-Red.ensures.summed sides.1 r);
       blacks = search rules;
       leans = search rules;
       legal = search rules;

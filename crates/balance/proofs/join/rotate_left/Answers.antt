@@ -28,12 +28,12 @@ link-requires-in-Place g c =
 
 pub returns-in-Place : goal.returns-in-Place
 returns-in-Place g c =
-    let reds = open_right c.in-Place.is c.unlink-side.ensures.left c.unlink-side.ensures.right c.requires.right-leans c.requires.reds in
+    let reds = open_right c.in-Place.is c.unlink-side.ensures.left c.unlink-side.ensures.right c.requires.right_leans c.requires.reds in
     let p = parts c.in-Place.is c.unlink-side.ensures.left c.unlink-side.ensures.item c.unlink-side.ensures.right c.requires.right_weighed in
     let whole = ap items c.in-Place.is in
     let regrouped = turned (items c.args.left) (items c.unlink-side.result.1) (items c.unlink-side.result.2) c.args.place.value.item c.in-Place.side.value.item in
     let tall : blacks c.blacken.result ≡ blacks c.unlink-side.result.2 + 1 = c.blacken.ensures.blacks ∙ ap (λ b. blacks c.unlink-side.result.2 + cond b 1 0) reds.outer_red in
-    let near = c.link-left.ensures.legal (c.requires.level ∙ reds.tall) tt tt c.requires.left-legal reds.inner_legal in
+    let near = c.link-left.ensures.legal (c.requires.level ∙ reds.tall) tt tt c.requires.left_legal reds.inner_legal in
     record {
       items = cc;
       long = omega (arith, p.length_is, c.link-in-Place.ensures.long, c.link-left.ensures.long, c.blacken.ensures.long);

@@ -28,12 +28,12 @@ link-requires-in-Place g c =
 
 pub returns-in-Place : goal.returns-in-Place
 returns-in-Place g c =
-    let reds = open_left c.in-Place.is c.unlink-side.ensures.left c.unlink-side.ensures.right c.requires.left-leans c.requires.reds in
+    let reds = open_left c.in-Place.is c.unlink-side.ensures.left c.unlink-side.ensures.right c.requires.left_leans c.requires.reds in
     let p = parts c.in-Place.is c.unlink-side.ensures.left c.unlink-side.ensures.item c.unlink-side.ensures.right c.requires.left_weighed in
     let whole = ap items c.in-Place.is in
     let regrouped = turned (items c.unlink-side.result.1) (items c.unlink-side.result.2) (items c.args.right) c.in-Place.side.value.item c.args.place.value.item in
     let tall : blacks c.blacken.result ≡ blacks c.unlink-side.result.1 + 1 = c.blacken.ensures.blacks ∙ ap (λ b. blacks c.unlink-side.result.1 + cond b 1 0) reds.outer_red in
-    let near = c.link-right.ensures.legal (sym reds.tall ∙ c.requires.level) tt tt reds.inner_legal c.requires.right-legal in
+    let near = c.link-right.ensures.legal (sym reds.tall ∙ c.requires.level) tt tt reds.inner_legal c.requires.right_legal in
     record {
       items = cc;
       long = omega (arith, p.length_is, c.link-in-Place.ensures.long, c.link-right.ensures.long, c.blacken.ensures.long);

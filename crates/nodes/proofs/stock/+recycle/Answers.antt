@@ -7,8 +7,8 @@ recycle-requires g t c κs within =
     let n = items_count c.in-Place.is c.unlink-place.ensures.left c.unlink-place.ensures.right in
     search rules
 
-pub push-reserved-requires : goal.push-reserved-requires
-push-reserved-requires g t c =
+pub push_reserved-requires : goal.push_reserved-requires
+push_reserved-requires g t c =
     let n = items_count c.in-Place.is c.unlink-place.ensures.left c.unlink-place.ensures.right in
     omega (arith, c.recycle.ensures.len, c.recycle.ensures.capacity, c.requires)
 

@@ -5,8 +5,8 @@ use Rattle.seeking.specs.Depths.{deep}
 use Rattle.seeking.proofs.Shallow.{deep_few, shallow}
 use Rattle.seeking.proofs.deepest.+depth.Goals as goal
 
-pub overflow-add-result : goal.overflow-add-result
-overflow-add-result g t c =
+pub overflow_add-result : goal.overflow_add-result
+overflow_add-result g t c =
     let tree = c.args.tree.now in
     let parts = ap deep c.in-Place.is in
     let d : c.max.result + 1 ≡ deep tree = cc in

@@ -7,7 +7,7 @@ pub through-requires : goal.through-requires
 through-requires g t c =
     let o = opens g.T.Total.neutral g.T.Total.joined g.met.T.Total.monoid c.in-Place.is c.deref-node.ensures c.requires.weighed in
     let before = c.sums-before.ensures in
-    let below = c.find-break-found.ensures in
+    let below = c.find_break-found.ensures in
     record {
       fair = o.fair;
       breaks = (omega arith, below.few.0);
@@ -18,7 +18,7 @@ through-requires g t c =
 pub returns-then-number-before : goal.returns-then-number-before
 returns-then-number-before g t c =
     let o = opens g.T.Total.neutral g.T.Total.joined g.met.T.Total.monoid c.in-Place.is c.deref-node.ensures c.requires.weighed in
-    let found = c.find-break.ensures in
+    let found = c.find_break.ensures in
     record {
       stands = stands_left g.T.Total.neutral g.T.Total.joined g.met.T.Total.monoid o found.stands;
       number = found.number;
@@ -45,10 +45,10 @@ returns-else-number-before-2 g t c =
     let j = g.T.Total.joined in
     let o = opens n j g.met.T.Total.monoid c.in-Place.is c.deref-node.ensures c.requires.weighed in
     let before = c.sums-before.ensures in
-    let below = c.find-break-found.ensures in
+    let below = c.find_break-found.ensures in
     let all = c.through.ensures in
     record {
-      stands = stands_right n j g.met.T.Total.monoid o below.stands refl (omega (arith, all.length, before.length)) (omega (arith, all.breaks, before.breaks)) (omega (arith, all.pieces, before.pieces)) (all.total ∙ ap (λ x. j (j x c.deref-node.result.now.item.total) c.find-break-found.result.before.total) before.total);
+      stands = stands_right n j g.met.T.Total.monoid o below.stands refl (omega (arith, all.length, before.length)) (omega (arith, all.breaks, before.breaks)) (omega (arith, all.pieces, before.pieces)) (all.total ∙ ap (λ x. j (j x c.deref-node.result.now.item.total) c.find_break-found.result.before.total) before.total);
       number = omega (arith, all.breaks, below.number);
       inner = below.inner;
       ends = omega (arith, all.length, before.length, below.ends, o.length_is);

@@ -1,5 +1,5 @@
 use Rattle.nodes.proofs.Shapes.{spots}
 use Rattle.seeking.proofs.seek.+find_break.Given as goal
 
-abbrev pub decreases-find-break : goal.decreases-find-break
-decreases-find-break g l = spots l.tree.now
+abbrev pub decreases-find_break : goal.decreases-find_break
+decreases-find_break g l = spots l.tree.now
