@@ -7,7 +7,7 @@ use Rattle.session.proofs.copy_front.Goals as goal
 pub returns : goal.returns
 returns c =
     let buffer = c.args.buffer.now in
-    let stop = c.min-stop.ensures ∙ ap (λ n. min n (length buffer)) c.unwrap-or.ensures in
-    IfOk-weaker c.from-slice.result _ _
+    let stop = c.min-stop.ensures ∙ ap (λ n. min n (length buffer)) c.unwrap_or.ensures in
+    IfOk-weaker c.from_slice.result _ _
     (λ v made. made.0 ∙ ap (λ n. take n buffer) (sub-zero c.min-stop.result ∙ stop) ∙ take_clamped _ buffer)
-    c.from-slice.ensures.made
+    c.from_slice.ensures.made

@@ -8,6 +8,6 @@ pub returns : goal.returns
 returns c =
     let value = c.args.totals.first.value in
     let count = c.args.totals.second.count in
-    IfOk-weaker c.copy-front.result _ _
-    (λ v copied. copied ∙ front _ (totals_line value count) c.write-totals-end.result c.write-totals-end.ensures (short_totals value count c.args.totals.second.modular))
-    c.copy-front.ensures
+    IfOk-weaker c.copy_front.result _ _
+    (λ v copied. copied ∙ front _ (totals_line value count) c.write_totals-end.result c.write_totals-end.ensures (short_totals value count c.args.totals.second.modular))
+    c.copy_front.ensures
