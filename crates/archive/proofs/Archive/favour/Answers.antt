@@ -4,18 +4,18 @@ use Rattle.archive.proofs.Kept.{favoured_filed, favoured_links, favoured_volumes
 use Rattle.archive.proofs.Numbered.{favouring_zero}
 use Rattle.archive.proofs.Archive.favour.Goals as goal
 
-pub chapter-at-chapter-requires : goal.chapter-at-chapter-requires
-chapter-at-chapter-requires c =
+pub chapter_at-chapter-requires : goal.chapter_at-chapter-requires
+chapter_at-chapter-requires c =
     let h = has_chapter c.args.self.now c.args.version c.requires.made c.if-version-eq0.false in
     record { within = omega (arith, h, c.deref.ensures.len) }
 
-pub index-mut-requires : goal.index-mut-requires
-index-mut-requires c = has_chapter c.args.self.now c.args.version c.requires.made c.if-version-eq0.false
+pub index_mut-requires : goal.index_mut-requires
+index_mut-requires c = has_chapter c.args.self.now c.args.version c.requires.made c.if-version-eq0.false
 
-pub invariant-of-self-else-version-eq0 : goal.invariant-of-self-else-version-eq0
-invariant-of-self-else-version-eq0 c =
-    let f = favoured_filed c.args.self.now c.args.version c.chapter-at-chapter.result c.deref.result.now c.deref.ensures.value
-    c.requires.made c.if-version-eq0.false c.chapter-at-chapter.ensures c.args.child in
+pub invariant_of-self-else-version-eq0 : goal.invariant_of-self-else-version-eq0
+invariant_of-self-else-version-eq0 c =
+    let f = favoured_filed c.args.self.now c.args.version c.chapter_at-chapter.result c.deref.result.now c.deref.ensures.value
+    c.requires.made c.if-version-eq0.false c.chapter_at-chapter.ensures c.args.child in
     (∣ f ∣₁, (c.args.self.now.stored, (c.args.self.now.within, tt)))
 
 pub returns-then-version-eq0 : goal.returns-then-version-eq0
@@ -32,9 +32,9 @@ returns-then-version-eq0 c =
 pub returns-else-version-eq0 : goal.returns-else-version-eq0
 returns-else-version-eq0 c =
     record {
-      versions = favoured_volumes c.args.self.now c.args.version c.chapter-at-chapter.result c.deref.result.now c.deref.ensures.value
-          c.requires.made c.if-version-eq0.false c.chapter-at-chapter.ensures c.args.child;
-      links = favoured_links c.args.self.now c.args.version c.chapter-at-chapter.result c.deref.result.now c.deref.ensures.value
-          c.requires.made c.if-version-eq0.false c.chapter-at-chapter.ensures c.args.child;
+      versions = favoured_volumes c.args.self.now c.args.version c.chapter_at-chapter.result c.deref.result.now c.deref.ensures.value
+          c.requires.made c.if-version-eq0.false c.chapter_at-chapter.ensures c.args.child;
+      links = favoured_links c.args.self.now c.args.version c.chapter_at-chapter.result c.deref.result.now c.deref.ensures.value
+          c.requires.made c.if-version-eq0.false c.chapter_at-chapter.ensures c.args.child;
       same = record { entries = refl; open_entries = refl; runs = refl; capacity = refl };
     }

@@ -5,12 +5,12 @@ use Rattle.archive.proofs.Filing.{filed_last, kept_first, stored_last, taken_las
 use Rattle.archive.proofs.Props.{stored}
 use Rattle.archive.proofs.Archive.file.Goals as goal
 
-pub invariant-of-self : goal.invariant-of-self
-invariant-of-self c =
+pub invariant_of-self : goal.invariant_of-self
+invariant_of-self c =
     let self = c.args.self.now in
-    let pushed = c.push-reserved.ensures in
+    let pushed = c.push_reserved.ensures in
     let before = self.entries.items in
-    let after = c.push-reserved.new.self.items in
+    let after = c.push_reserved.new.self.items in
     let entry : Entry = record { step = c.args.step; marks = c.args.marks; first = self.runs; kept = c.args.kept } in (
       self.filed,
       (
@@ -22,11 +22,11 @@ invariant-of-self c =
 pub returns : goal.returns
 returns c =
     let self = c.args.self.now in
-    let pushed = c.push-reserved.ensures in
+    let pushed = c.push_reserved.ensures in
     let before = self.entries.items in
-    let after = c.push-reserved.new.self.items in
+    let after = c.push_reserved.new.self.items in
     let entry : Entry = record { step = c.args.step; marks = c.args.marks; first = self.runs; kept = c.args.kept } in
-    let m = c.push-reserved.new.self.len in
+    let m = c.push_reserved.new.self.len in
     let n = self.entries.len in
     let first = kept_first after before entry m n self.sealed pushed.items pushed.len self.within in
     record {

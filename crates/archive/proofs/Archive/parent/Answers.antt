@@ -3,8 +3,8 @@ use Rattle.archive.specs.Volumes.{parent_in}
 use Rattle.archive.proofs.Kept.{first_volume, found, has_chapter}
 use Rattle.archive.proofs.Archive.parent.Goals as goal
 
-pub chapter-at-requires : goal.chapter-at-requires
-chapter-at-requires c =
+pub chapter_at-requires : goal.chapter_at-requires
+chapter_at-requires c =
     let h = has_chapter c.args.self.now c.args.version c.requires.made c.if-version-eq0.false in
     record { within = omega (arith, h, c.deref.ensures.len) }
 
@@ -13,5 +13,5 @@ returns-then-version-eq0 c = ap parent_in (sym (first_volume c.args.self.now c.a
 
 pub returns : goal.returns
 returns c =
-    ap parent_in (sym (found c.args.self.now c.args.version c.chapter-at.result c.deref.result.now c.deref.ensures.value
-    c.requires.made c.if-version-eq0.false c.chapter-at.ensures))
+    ap parent_in (sym (found c.args.self.now c.args.version c.chapter_at.result c.deref.result.now c.deref.ensures.value
+    c.requires.made c.if-version-eq0.false c.chapter_at.ensures))

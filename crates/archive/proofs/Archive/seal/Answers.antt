@@ -5,13 +5,13 @@ use Rattle.archive.proofs.Filing.{filed_more, links_more, volumes_more}
 use Rattle.archive.proofs.Props.{filed}
 use Rattle.archive.proofs.Archive.seal.Goals as goal
 
-pub invariant-of-self : goal.invariant-of-self
-invariant-of-self c =
+pub invariant_of-self : goal.invariant_of-self
+invariant_of-self c =
     let self = c.args.self.now in
     let made = c.len-made.result in
-    let pushed = c.push-reserved.ensures in
+    let pushed = c.push_reserved.ensures in
     let before = self.chapters.items in
-    let after = c.push-reserved.new.self.items in
+    let after = c.push_reserved.new.self.items in
     let chapter : Chapter = record { parent = c.args.parent; favoured = None; first = self.sealed; count = made - self.sealed; link = 0 } in
     let known = filed (reverse before) self.sealed self.filed in (
       ∣ filed_more after before chapter made pushed.items (omega (arith, self.within, c.len-made.ensures)) known ∣₁,
@@ -22,9 +22,9 @@ pub returns : goal.returns
 returns c =
     let self = c.args.self.now in
     let made = c.len-made.result in
-    let pushed = c.push-reserved.ensures in
+    let pushed = c.push_reserved.ensures in
     let before = self.chapters.items in
-    let after = c.push-reserved.new.self.items in
+    let after = c.push_reserved.new.self.items in
     let chapter : Chapter = record { parent = c.args.parent; favoured = None; first = self.sealed; count = made - self.sealed; link = 0 } in
     let n = self.entries.len in
     let entries = reverse self.entries.items in

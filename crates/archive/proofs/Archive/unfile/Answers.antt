@@ -4,8 +4,8 @@ use Rattle.archive.proofs.Filing.{filed_last, kept_first, one_off, some_past, st
 use Rattle.archive.proofs.Props.{stored}
 use Rattle.archive.proofs.Archive.unfile.Goals as goal
 
-pub invariant-of-self : goal.invariant-of-self
-invariant-of-self c =
+pub invariant_of-self : goal.invariant_of-self
+invariant_of-self c =
     let self = c.args.self.now in
     let popped = c.pop.ensures in
     let newest = c.unwrap-newest.result in
