@@ -6,8 +6,8 @@ use Rattle.pieces.proofs.Cuts.{taken, dropped, whole_parts, standing_front, stan
 use Rattle.pieces.proofs.Spreads.{carry_front, carry_back}
 use Rattle.pieces.proofs.cutting.cut.Goals as goal
 
-pub cut-piece-requires : goal.cut-piece-requires
-cut-piece-requires g c =
+pub cut_piece-requires : goal.cut_piece-requires
+cut_piece-requires g c =
     let part = c.split-part.result in
     let s = c.split-part.ensures in
     record {
@@ -80,10 +80,10 @@ returns g c =
     let left = items part.left in
     let right = items part.right in
     let item = part.place.value.item in
-    let front = c.cut-piece.result.0 in
-    let back = c.cut-piece.result.1 in
+    let front = c.cut_piece.result.0 in
+    let back = c.cut_piece.result.1 in
     let s = c.split-part.ensures in
-    let p = c.cut-piece.ensures in
+    let p = c.cut_piece.ensures in
     let breaks = g.E.Element.breaks in
     let neutral = g.T.Total.neutral in
     let value = g.T.Measure.value in

@@ -3,14 +3,14 @@ use Rattle.nodes.specs.Trees.{items, Bare, Fair}
 use Rattle.pieces.proofs.Cuts.{inside_read}
 use Rattle.pieces.proofs.cutting.cut_piece.Goals as goal
 
-pub overflow-add-behind : goal.overflow-add-behind
-overflow-add-behind g c =
+pub overflow_add-behind : goal.overflow_add-behind
+overflow_add-behind g c =
     let inside = inside_read (length c.args.original.now) (length c.args.added.now) c.deref.ensures c.requires.inside in
     let long = ap (λ n. n.item.length) c.deref.ensures in
     search rules
 
-pub measure-piece-front-requires : goal.measure-piece-front-requires
-measure-piece-front-requires g c =
+pub measure_piece-front-requires : goal.measure_piece-front-requires
+measure_piece-front-requires g c =
     let inside = inside_read (length c.args.original.now) (length c.args.added.now) c.deref.ensures c.requires.inside in
     let long = ap (λ n. n.item.length) c.deref.ensures in
     record {
@@ -18,13 +18,13 @@ measure-piece-front-requires g c =
       some = c.requires.inner.0;
     }
 
-pub overflow-sub-item : goal.overflow-sub-item
-overflow-sub-item g c =
+pub overflow_sub-item : goal.overflow_sub-item
+overflow_sub-item g c =
     let long = ap (λ n. n.item.length) c.deref.ensures in
     omega (arith, long, c.requires.inner.1)
 
-pub measure-piece-back-requires : goal.measure-piece-back-requires
-measure-piece-back-requires g c =
+pub measure_piece-back-requires : goal.measure_piece-back-requires
+measure_piece-back-requires g c =
     let inside = inside_read (length c.args.original.now) (length c.args.added.now) c.deref.ensures c.requires.inside in
     let long = ap (λ n. n.item.length) c.deref.ensures in
     record {
@@ -37,45 +37,45 @@ draw-last-requires g c = record { some = c.requires.spare }
 
 pub join-requires : goal.join-requires
 join-requires g c =
-    let front = c.measure-piece-front.ensures in
+    let front = c.measure_piece-front.ensures in
     let drawn = c.draw-last.ensures in
     record {
       bare = drawn.bare;
       fair = subst Fair (sym drawn.item) front.fair;
       left_weighed = c.requires.weighed.0;
       right_weighed = tt;
-      left-balanced = c.requires.balanced.0;
-      right-balanced = (refl, tt);
+      left_balanced = c.requires.balanced.0;
+      right_balanced = (refl, tt);
       fits = omega (arith, c.requires.fits, ap (λ i. i.length) drawn.item, front.length, c.requires.inner.1);
     }
 
 pub join-requires-2 : goal.join-requires-2
 join-requires-2 g c =
-    let back = c.measure-piece-back.ensures in
+    let back = c.measure_piece-back.ensures in
     let long = ap (λ n. n.item.length) c.deref.ensures in
     record {
-      bare = subst Bare (sym c.deref-mut.ensures.value) c.requires.bare;
+      bare = subst Bare (sym c.deref_mut.ensures.value) c.requires.bare;
       fair = back.fair;
       left_weighed = tt;
       right_weighed = c.requires.weighed.1;
-      left-balanced = (refl, tt);
-      right-balanced = c.requires.balanced.1;
+      left_balanced = (refl, tt);
+      right_balanced = c.requires.balanced.1;
       fits = omega (arith, c.requires.fits, long, back.length);
     }
 
 pub returns : goal.returns
 returns g c =
     let node = c.deref.ensures in
-    let front = c.measure-piece-front.ensures in
-    let back = c.measure-piece-back.ensures in
+    let front = c.measure_piece-front.ensures in
+    let back = c.measure_piece-back.ensures in
     let drawn = c.draw-last.ensures in
     let left = c.join.ensures in
     let right = c.join-2.ensures in
     let long = ap (λ n. n.item.length) node in
     record {
       halves = record {
-        first = c.measure-piece-front.result;
-        second = c.measure-piece-back.result;
+        first = c.measure_piece-front.result;
+        second = c.measure_piece-back.result;
         front_is = left.items ∙ ap (λ i. items c.args.part.left ++ i ∷ []) drawn.item;
         back_is = right.items;
         first_piece = front.piece ∙ ap (λ n. n.item.piece) node;

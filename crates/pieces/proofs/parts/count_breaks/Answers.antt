@@ -9,8 +9,8 @@ loop-element-preserved g c =
     let more = count_more breaks c.args.part.now c.loop-element.element-index c.element-item.result c.loop-element-test.true c.element-item.is in
     let one = one_at_most breaks (breaks c.element-item.result) in (
       omega (arith, c.loop-element-test.true),
-      omega (arith, c.loop-element.invariant.1, c.break-count-count.ensures, more),
-      omega (arith, c.loop-element.invariant.2, c.break-count-count.ensures, one),
+      omega (arith, c.loop-element.invariant.1, c.break_count-count.ensures, more),
+      omega (arith, c.loop-element.invariant.2, c.break_count-count.ensures, one),
     )
 
 pub returns : goal.returns

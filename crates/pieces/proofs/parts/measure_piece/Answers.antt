@@ -6,14 +6,14 @@ use Rattle.pieces.proofs.parts.measure_piece.Goals as goal
 
 pub returns : goal.returns
 returns g c =
-    let part = c.source-part-part.ensures in
+    let part = c.source_part-part.ensures in
     let few = part_few c.args.original.now c.args.added.now c.args.first c.args.count in
     record {
       piece = refl;
       length = refl;
-      fair = (c.requires.some, omega (arith, c.count-breaks.ensures.few, ap length part, few));
+      fair = (c.requires.some, omega (arith, c.count_breaks.ensures.few, ap length part, few));
       carries = (
-        c.count-breaks.ensures.count ∙ ap (count_breaks g.E.Element.breaks) part,
+        c.count_breaks.ensures.count ∙ ap (count_breaks g.E.Element.breaks) part,
         c.fold.ensures.whole ∙ ap (total g.T.Total.neutral g.T.Measure.value g.T.Total.joined) part,
       );
     }

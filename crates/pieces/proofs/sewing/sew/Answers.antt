@@ -13,7 +13,7 @@ returns-then-sums-eq0 g c =
       items = sym (ap (λ xs. sewn g.T.Total.joined xs (items c.args.right)) empty);
       long = omega (arith, zero);
       weighed = c.requires.right_weighed;
-      balanced = c.requires.right-balanced;
+      balanced = c.requires.right_balanced;
       summed = λ a b. b;
       stock =
           let count : length (items c.args.right) ≡ length (items c.args.left) + length (items c.args.right) = omega (arith, ap length empty) in
@@ -21,31 +21,31 @@ returns-then-sums-eq0 g c =
       capacity = refl;
     }
 
-pub take-last-front-requires : goal.take-last-front-requires
-take-last-front-requires g c = record {
+pub take_last-front-requires : goal.take_last-front-requires
+take_last-front-requires g c = record {
   weighed = c.requires.left_weighed;
-  balanced = c.requires.left-balanced;
+  balanced = c.requires.left_balanced;
   some = omega (arith, c.sums.ensures.length, c.if-sums-eq0.false);
   fits = omega (arith, c.requires.fits);
 }
 
-pub take-first-first-requires : goal.take-first-first-requires
-take-first-first-requires g c = record {
+pub take_first-first-requires : goal.take_first-first-requires
+take_first-first-requires g c = record {
   weighed = c.requires.right_weighed;
-  balanced = c.requires.right-balanced;
+  balanced = c.requires.right_balanced;
   some = omega (arith, c.sums-2.ensures.length, c.if-sums-eq0-2.false);
   fits = omega (arith, c.requires.fits);
 }
 
-pub join-ends-requires : goal.join-ends-requires
-join-ends-requires g c =
-    let l = c.take-last-front.ensures in
-    let f = c.take-first-first.ensures in
+pub join_ends-requires : goal.join_ends-requires
+join_ends-requires g c =
+    let l = c.take_last-front.ensures in
+    let f = c.take_first-first.ensures in
     record {
-      front-weighed = l.weighed;
-      back-weighed = f.weighed;
-      front-balanced = l.balanced;
-      back-balanced = f.balanced;
+      front_weighed = l.weighed;
+      back_weighed = f.weighed;
+      front_balanced = l.balanced;
+      back_balanced = f.balanced;
       bare = (l.bare, f.bare);
       fair = (l.fair, f.fair);
       fits = omega (arith, l.long, f.long, c.requires.fits);
@@ -62,7 +62,7 @@ returns-then-sums-eq0-2 g c =
       items = sym (ap (sewn joined left) empty ∙ sewn_none joined left);
       long = omega (arith, zero);
       weighed = c.requires.left_weighed;
-      balanced = c.requires.left-balanced;
+      balanced = c.requires.left_balanced;
       summed = λ a b. a;
       stock =
           let count : length left ≡ length left + length (items c.args.right) = omega (arith, ap length empty) in
@@ -73,13 +73,13 @@ returns-then-sums-eq0-2 g c =
 pub returns : goal.returns
 returns g c =
     let joined = g.T.Total.joined in
-    let front = items c.take-last-front.result.0 in
-    let back = items c.take-first-first.result.1 in
-    let i = (box_value c.take-last-front.result.1).item in
-    let j = (box_value c.take-first-first.result.0).item in
-    let l = c.take-last-front.ensures in
-    let f = c.take-first-first.ensures in
-    let s = c.join-ends.ensures in
+    let front = items c.take_last-front.result.0 in
+    let back = items c.take_first-first.result.1 in
+    let i = (box_value c.take_last-front.result.1).item in
+    let j = (box_value c.take_first-first.result.0).item in
+    let l = c.take_last-front.ensures in
+    let f = c.take_first-first.ensures in
+    let s = c.join_ends.ensures in
     record {
       items = s.items ∙ sym (sewn_end joined i front (j ∷ back)) ∙ ap (λ xs. sewn joined xs (j ∷ back)) l.items ∙ ap (sewn joined (items c.args.left)) f.items;
       long = omega (arith, s.long, l.long, f.long);

@@ -5,23 +5,23 @@ use Rattle.pieces.specs.Spread.{places}
 use Rattle.pieces.proofs.Sewn.{faithful_sewn, inside_is, places_one, places_sewn, sewn_few, standing_one, standing_sewn}
 use Rattle.splicing.proofs.edits.add_run.Goals as goal
 
-pub measure-piece-item-requires : goal.measure-piece-item-requires
-measure-piece-item-requires g c = record { inside = c.requires.inside; some = c.requires.some }
+pub measure_piece-item-requires : goal.measure_piece-item-requires
+measure_piece-item-requires g c = record { inside = c.requires.inside; some = c.requires.some }
 
 pub draw-place-requires : goal.draw-place-requires
 draw-place-requires g c = record { some = c.requires.spare }
 
 pub join-run-requires : goal.join-run-requires
 join-run-requires g c =
-    let m = c.measure-piece-item.ensures in
+    let m = c.measure_piece-item.ensures in
     let d = c.draw-place.ensures in
     record {
       bare = d.bare;
       fair = subst Fair (sym d.item) m.fair;
       left_weighed = tt;
       right_weighed = tt;
-      left-balanced = (refl, tt);
-      right-balanced = (refl, tt);
+      left_balanced = (refl, tt);
+      right_balanced = (refl, tt);
       fits = omega (arith, ap (λ x. x.length) d.item, m.length, c.requires.fits);
     }
 
@@ -32,9 +32,9 @@ sew-requires g c =
     record {
       left_weighed = c.requires.standing.weighed;
       right_weighed = j.weighed;
-      left-balanced = c.requires.standing.balanced;
-      right-balanced = j.balanced;
-      fits = omega (arith, j.long, ap (λ x. x.length) d.item, c.measure-piece-item.ensures.length, c.requires.fits);
+      left_balanced = c.requires.standing.balanced;
+      right_balanced = j.balanced;
+      fits = omega (arith, j.long, ap (λ x. x.length) d.item, c.measure_piece-item.ensures.length, c.requires.fits);
       room = omega (arith, ap length j.items, d.len, d.capacity, c.requires.room);
     }
 
@@ -48,8 +48,8 @@ returns g c =
     let added = c.args.added.now in
     let tree = c.args.tree in
     let run = c.join-run.result in
-    let item = c.measure-piece-item.result in
-    let m = c.measure-piece-item.ensures in
+    let item = c.measure_piece-item.result in
+    let m = c.measure_piece-item.ensures in
     let d = c.draw-place.ensures in
     let j = c.join-run.ensures in
     let s = c.sew.ensures in

@@ -12,8 +12,8 @@ cut-left-requires g c = record {
   spare = omega (arith, c.requires.spare);
 }
 
-pub add-run-left-requires : goal.add-run-left-requires
-add-run-left-requires g c =
+pub add_run-left-requires : goal.add_run-left-requires
+add_run-left-requires g c =
     let k = c.cut-left.ensures in
     record {
       standing = k.standing.0;
@@ -27,12 +27,12 @@ add-run-left-requires g c =
 pub sew-requires : goal.sew-requires
 sew-requires g c =
     let k = c.cut-left.ensures in
-    let a = c.add-run-left.ensures in
+    let a = c.add_run-left.ensures in
     record {
       left_weighed = a.standing.weighed;
       right_weighed = k.standing.1.weighed;
-      left-balanced = a.standing.balanced;
-      right-balanced = k.standing.1.balanced;
+      left_balanced = a.standing.balanced;
+      right_balanced = k.standing.1.balanced;
       fits = omega (arith, a.long, k.long.0, k.long.1, c.requires.fits);
       room = omega (arith, a.stock, a.capacity, k.stock, k.capacity, c.requires.room);
     }
@@ -44,9 +44,9 @@ returns g c =
     let added = c.args.added.now in
     let first = c.args.first in
     let right = c.cut-left.result.1 in
-    let left = c.add-run-left.result in
+    let left = c.add_run-left.result in
     let k = c.cut-left.ensures in
-    let a = c.add-run-left.ensures in
+    let a = c.add_run-left.ensures in
     let s = c.sew.ensures in
     record {
       places = between (stretch first.source first.index c.args.count) (places_sewn joined left right c.sew.result s.items) a.places k.front k.back;

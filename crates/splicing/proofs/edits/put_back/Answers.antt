@@ -25,12 +25,12 @@ loop-run-init g c =
       refl,
     )
 
-pub add-run-left-requires : goal.add-run-left-requires
-add-run-left-requires g c =
+pub add_run-left-requires : goal.add_run-left-requires
+add_run-left-requires g c =
     let original = length c.args.original.now in
     let added = length c.args.added.now in
     let runs = c.args.runs.now in
-    let i = c.loop-run.run_index in
+    let i = c.loop-run.run-index in
     let inv = c.loop-run.invariant in
     let k = c.cut-left.ensures in
     let within = c.loop-run-test.true in
@@ -39,7 +39,7 @@ add-run-left-requires g c =
       standing = inv.2;
       fits = omega (arith, inv.1, k.long.0, c.requires.within, c.requires.fits, length_more runs i within, spelled_few runs (i + 1));
       some = fit.0;
-      inside = subst (λ (p : Place). p.index + (get_or runs i blank).length ≤ size_of original added p.source) (sym c.first-place.ensures) fit.1;
+      inside = subst (λ (p : Place). p.index + (get_or runs i blank).length ≤ size_of original added p.source) (sym c.first_place.ensures) fit.1;
       spare = omega (arith, inv.5, within);
       room = omega (arith, inv.4, inv.6, k.stock, k.capacity, c.requires.room);
     }
@@ -47,11 +47,11 @@ add-run-left-requires g c =
 pub loop-run-preserved : goal.loop-run-preserved
 loop-run-preserved g c =
     let runs = c.args.runs.now in
-    let i = c.loop-run.run_index in
+    let i = c.loop-run.run-index in
     let inv = c.loop-run.invariant in
-    let a = c.add-run-left.ensures in
+    let a = c.add_run-left.ensures in
     let within = c.loop-run-test.true in (
-      run_added (places c.cut-left.result.0) runs i c.first-place.result within c.first-place.ensures inv.0 a.places,
+      run_added (places c.cut-left.result.0) runs i c.first_place.result within c.first_place.ensures inv.0 a.places,
       omega (arith, inv.1, a.long, length_more runs i within),
       a.standing,
       λ f. a.faithful (inv.3 f),
@@ -67,9 +67,9 @@ sew-requires g c =
     record {
       left_weighed = inv.2.weighed;
       right_weighed = k.standing.1.weighed;
-      left-balanced = inv.2.balanced;
-      right-balanced = k.standing.1.balanced;
-      fits = omega (arith, inv.1, k.long.0, k.long.1, c.requires.fits, spelled_few c.args.runs.now c.loop-run.run_index);
+      left_balanced = inv.2.balanced;
+      right_balanced = k.standing.1.balanced;
+      fits = omega (arith, inv.1, k.long.0, k.long.1, c.requires.fits, spelled_few c.args.runs.now c.loop-run.run-index);
       room = omega (arith, inv.4, inv.6, k.stock, k.capacity, c.requires.room);
     }
 
@@ -84,7 +84,7 @@ returns g c =
     let inv = c.loop-run.invariant in
     let k = c.cut-left.ensures in
     let s = c.sew.ensures in
-    let all = take_all c.loop-run.run_index runs c.loop-run-test.false in
+    let all = take_all c.loop-run.run-index runs c.loop-run-test.false in
     let filled = inv.0 ∙ ap (λ rs. places c.cut-left.result.0 ++ spelled rs) all in
     record {
       places = between (spelled runs) (places_sewn joined left right c.sew.result s.items) filled k.front k.back;

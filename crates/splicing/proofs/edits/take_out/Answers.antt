@@ -29,8 +29,8 @@ sew-requires g c =
     record {
       left_weighed = k.standing.0.weighed;
       right_weighed = p.standing.1.weighed;
-      left-balanced = k.standing.0.balanced;
-      right-balanced = p.standing.1.balanced;
+      left_balanced = k.standing.0.balanced;
+      right_balanced = p.standing.1.balanced;
       fits = omega (arith, k.long.0, k.long.1, p.long.1, c.requires.fits);
       room = omega (arith, p.stock, p.capacity, k.stock, k.capacity, c.requires.room);
     }
