@@ -1,5 +1,5 @@
 -- A hand is its number: two hands with the same number are the same hand. Assumes nothing.
-use Rattle.std.proofs.Common.{◌≡◌, ℕ, ◌≤◌, refl}
+use Rattle.std.proofs.Common.{◌≡◌, ◌≤◌}
 use mathlib.Core.HLevel.{is_prop→PathP}
 use native.Mathlib.Bridge.{le_prop}
 use Rattle.element.specs.declared.hand.Hand.{Hand}

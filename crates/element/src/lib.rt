@@ -1,5 +1,7 @@
 // Elements: what a text consists of. An element tells whether it ends a line, which byte it shows, and which hand
 // typed it. A hand is a number that says who typed an element: 0 is the set text's, 1 the candidate's.
+#![tactic(auto)]
+
 ghost use Rattle.std.specs.Prelude.{◌≡◌, ℕ, min, Bool, ◌==◌};
 ghost use Rattle.std.proofs.Common.{rules};
 

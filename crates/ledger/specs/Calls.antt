@@ -1,5 +1,5 @@
 -- The calls, what denies each of them, and what an accepted one does to the ledger. Assumes nothing.
-use Rattle.std.specs.Prelude.{ℕ, suc, ◌+◌, ◌-◌, Bool, true, false, cond, not, ◌||◌, List, [], ◌∷◌, ◌++◌, length, take, is_some, Some, None, Option, ◌==◌, nat_le, nat_lt}
+use Rattle.std.specs.Prelude.{ℕ, ◌+◌, ◌-◌, Bool, true, false, cond, not, ◌||◌, List, [], ◌∷◌, ◌++◌, length, take, is_some, Some, None, Option, ◌==◌, nat_le, nat_lt}
 use Rattle.element.specs.Lines.{lines}
 use Rattle.ledger.specs.History.{Version, version, version_at, along}
 use Rattle.ledger.specs.Ledgers.{Ledger, steps_open, is_open, content, text, added_used, steps_used, runs_used}

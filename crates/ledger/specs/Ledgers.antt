@@ -4,7 +4,6 @@ use Rattle.ledger.specs.History.{Version, version, story, steps_made, added_made
 use Rattle.ledger.specs.Places.{elements_at}
 use Rattle.ledger.specs.Steps.{Content, replay, all_added, all_kept}
 use Rattle.ledger.specs.declared.words.Capacities.{Capacities}
-use Rattle.ledger.specs.declared.words.Place.{Place}
 use Rattle.ledger.specs.declared.words.Step.{Step}
 
 pub record Ledger (E : Type 0) : Type 0 where

@@ -1,6 +1,6 @@
 -- What stands in every ledger that calls can reach, and what it means that a call takes another back. Assumes nothing.
 use Rattle.std.specs.Prelude.{◌≡◌, ℕ, ◌+◌, ◌<◌, ◌≤◌, max, Bool, true, cond, List, [], ◌∷◌, ◌++◌, length, is_some, Some, None, Option, ◌==◌}
-use Rattle.ledger.specs.Calls.{Call, denial, next, run, favoured_child, parent_or_zero}
+use Rattle.ledger.specs.Calls.{Call, denial, run, favoured_child, parent_or_zero}
 use Rattle.ledger.specs.History.{Version, version_at, story, added_made}
 use Rattle.ledger.specs.Laws.{TakenBack}
 use Rattle.ledger.specs.Ledgers.{Ledger, steps_open, content, text, added_used, steps_used, runs_used}

@@ -1,4 +1,6 @@
 // Reads a paper from standard input, as cells, which carry the hand that typed them, and prints what is printed for it.
+#![tactic(auto)]
+
 use element::Cell;
 use script::paper::INPUT_LIMIT;
 use std::io::{Read, Write};

@@ -1,10 +1,10 @@
 -- The laws of fingerprints. Assumes nothing.
 use Rattle.std.specs.Prelude.{◌≡◌, ℕ, ◌+◌, ◌*◌, ◌%◌, ◌^◌, ◌<◌}
 use Rattle.std.proofs.Common.{sym, ap, ◌∙◌, mul_assoc, add-mul, add_assoc, one-mul, mul-one, zero-mul, zero-add, add-zero, mod-eq_of_lt}
-use mathlib.Core.HLevel.{is_prop→PathP, ×_prop}
+use mathlib.Core.HLevel.{is_prop→PathP}
 use Rattle.std.proofs.Math.Bridge.{le_prop}
 use Rattle.std.proofs.Math.Nat.{add-mod-mod}
-use Rattle.measure.specs.Fingerprints.{fingerprint, no_bytes, bytes_joined}
+use Rattle.measure.specs.Fingerprints.{no_bytes, bytes_joined}
 use Rattle.measure.specs.Totals.{Monoid}
 use Rattle.measure.specs.declared.types.Fingerprint.{Fingerprint}
 use Rattle.measure.specs.Modular.{mod_mul_left, mod_mul_right, mod_left_add, mod_right_add}

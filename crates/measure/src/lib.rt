@@ -1,5 +1,7 @@
 // Measures: a total for every part of a text, such that the total of two parts, one after the other, is the join
 // of their totals.
+#![tactic(auto)]
+
 ghost use Rattle.std.specs.Prelude.{◌≡◌, List, ◌++◌};
 ghost use Rattle.measure.specs.Totals.{Monoid, total};
 

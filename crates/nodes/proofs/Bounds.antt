@@ -5,7 +5,7 @@ use Rattle.std.specs.declared.alloc.Global.{Global}
 use Rattle.nodes.specs.declared.types.Node.{Node}
 use Rattle.nodes.specs.declared.types.Tree.{Tree, Place}
 use Rattle.nodes.specs.declared.types.Tree.TheVariants.{Empty, Place'}
-use Rattle.nodes.specs.Trees.{long, broken, placed, blacks, weight, red, ruddy, Weighed}
+use Rattle.nodes.specs.Trees.{long, broken, placed, blacks, red, Weighed}
 
 -- no more breaks, pieces or black places in a row than elements
 pub within : {P T : Type 0} → (tree : Tree P T) → Weighed tree → (broken tree ≤ long tree) × (placed tree ≤ long tree)

@@ -1,13 +1,12 @@
 -- What is known of a tree once it is open at its top place. Assumes nothing.
-use Rattle.std.proofs.Common.{◌≡◌, ℕ, ◌+◌, ◌<◌, ◌≤◌, true, false, ◌&&◌, List, [], ◌∷◌, ◌++◌, length, Box, sym, refl, ap, ◌∙◌, subst, append_assoc, arith, length-append}
+use Rattle.std.proofs.Common.{◌≡◌, ℕ, ◌+◌, true, false, List, ◌∷◌, ◌++◌, length, Box, sym, ap, ◌∙◌, subst, append_assoc, arith, length-append}
 use mathlib.Core.Bool.{false≢true}
 use Rattle.std.specs.declared.alloc.Global.{Global}
-use Rattle.nodes.specs.declared.types.Colour.{Colour}
 use Rattle.nodes.specs.declared.types.Colour.TheVariants.{Red, Black}
 use Rattle.nodes.specs.declared.types.Node.{Node}
 use Rattle.nodes.specs.declared.types.Tree.{Tree, Place}
 use Rattle.nodes.specs.declared.types.Tree.TheVariants.{Empty, Place'}
-use Rattle.nodes.specs.Trees.{items, long, broken, placed, blacks, weight, red, reds_left, reds_right, ruddy, Calm, Legal, LeansLeft, LeansRight, Summed, Weighed}
+use Rattle.nodes.specs.Trees.{items, blacks, red, reds_left, reds_right, Legal, LeansLeft, LeansRight, Summed}
 
 abbrev pub left_of : {P T : Type 0} → Tree P T → Tree P T
 left_of Empty = Empty

@@ -3,7 +3,6 @@ use Rattle.std.specs.Prelude.{◌≡◌, ℕ, ◌+◌, ◌<◌, ◌≤◌, Bool,
 use Rattle.nodes.specs.declared.types.Colour.{Colour}
 use Rattle.nodes.specs.declared.types.Colour.TheVariants.{Red, Black}
 use Rattle.nodes.specs.declared.types.Item.{Item}
-use Rattle.nodes.specs.declared.types.Sums.{Sums}
 use Rattle.nodes.specs.declared.types.Node.{Node}
 use Rattle.nodes.specs.declared.types.Tree.{Tree}
 use Rattle.nodes.specs.declared.types.Tree.TheVariants.{Empty, Place'}

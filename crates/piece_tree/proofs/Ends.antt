@@ -1,5 +1,5 @@
 -- What a tree without elements stands for. Assumes nothing.
-use Rattle.std.proofs.Common.{◌≡◌, ℕ, ◌+◌, ◌<◌, List, [], ◌∷◌, ◌++◌, refl, ap, ◌∙◌, arith}
+use Rattle.std.proofs.Common.{◌≡◌, [], refl, arith}
 use Rattle.nodes.specs.declared.types.Tree.{Tree}
 use Rattle.nodes.specs.declared.types.Tree.TheVariants.{Empty, Place'}
 use Rattle.nodes.specs.Trees.{items, long, Weighed}

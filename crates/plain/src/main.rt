@@ -1,4 +1,6 @@
 // Reads a paper from standard input, as bytes, and prints what is printed for it.
+#![tactic(auto)]
+
 use script::paper::INPUT_LIMIT;
 use std::io::{Read, Write};
 

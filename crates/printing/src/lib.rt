@@ -1,5 +1,7 @@
 // Numbers and short lines, written as bytes into a buffer of the caller's. Nothing is allocated. A writer takes the place to write at and
 // answers where its bytes end; where they do not fit it writes nothing, and answers `None`.
+#![tactic(auto)]
+
 ghost use Rattle.std.specs.Prelude.{◌≡◌, ◌+◌, ◌%◌, ◌≤◌, [], ◌∷◌, ◌++◌, length, decimal, nat_le};
 ghost use Rattle.printing.specs.Numerals.{hex_digit, hex8, hex_value, denial_line, totals_line};
 ghost use Rattle.printing.specs.Output.{Put};

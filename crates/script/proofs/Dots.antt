@@ -4,7 +4,7 @@ use Rattle.std.proofs.lemmas.List.{take_at}
 use Rattle.std.proofs.lemmas.Bool.{cases_Bool, cond-true, cond-false, and_parts, eqb-true, both_ways}
 use Rattle.std.specs.Option.{option_map}
 use Rattle.std.specs.List.{AllByRecursion}
-use Rattle.element.specs.Lines.{lines, onto}
+use Rattle.element.specs.Lines.{onto}
 use Rattle.script.specs.Paper.{byte_lines, rejoin, line_size, Splits, dot_line, is_dot, cut_lines, split_at_dot, Plain, FirstDot, NoDot}
 use Rattle.script.proofs.FirstLine.{lines_first}
 

@@ -5,9 +5,9 @@ use std::test::Fail;
 
 #[test]
 fn first_lines(rt: HostRuntime) {
-    assert_eq!(rt; split_line(b"ab\ncd\n"), (b"ab\n", b"cd\n"));
-    assert_eq!(rt; split_line(b"ab"), (b"ab", b""));
-    assert_eq!(rt; split_line(b""), (b"", b""));
+    assert_eq!(rt; split_line(b"ab\ncd\n"), (&b"ab\n"[..], &b"cd\n"[..]));
+    assert_eq!(rt; split_line(b"ab"), (&b"ab"[..], &b""[..]));
+    assert_eq!(rt; split_line(b""), (&b""[..], &b""[..]));
 }
 
 #[test]
@@ -23,9 +23,9 @@ fn dot_lines(rt: HostRuntime) {
 fn splits_at_the_first(rt: HostRuntime) {
     assert_eq!(rt;
         split_at_dot_line(b"a\n..\n.\nb\n.\nc"),
-        Some((b"a\n..\n", b"b\n.\nc"))
+        Some((&b"a\n..\n"[..], &b"b\n.\nc"[..]))
     );
-    assert_eq!(rt; split_at_dot_line(b".\n"), Some((b"", b"")));
+    assert_eq!(rt; split_at_dot_line(b".\n"), Some((&b""[..], &b""[..])));
     assert_eq!(rt; split_at_dot_line(b"a\n."), None);
 }
 

@@ -1,11 +1,11 @@
 -- A red-black tree is no deeper than twice its black height, and has two to the power of that many places less one.
 -- Assumes nothing.
-use Rattle.std.proofs.Common.{◌≡◌, ℕ, zero, suc, ◌+◌, ◌*◌, ◌/◌, ◌^◌, ◌<◌, ◌≤◌, max, Bool, true, false, cond, List, [], ◌∷◌, ◌++◌, length, sym, refl, ap, ◌∙◌, subst, zero-add, one-add, arith, length-append}
-use native.Mathlib.Nat.{max-le, pow-le-pow_right, two-pow-succ}
+use Rattle.std.proofs.Common.{◌≡◌, ℕ, ◌+◌, ◌*◌, ◌/◌, ◌^◌, ◌≤◌, Bool, true, false, cond, ◌∷◌, length, sym, ap, ◌∙◌, subst, zero-add, one-add, arith, length-append}
+use native.Mathlib.Nat.{pow-le-pow_right, two-pow-succ}
 use Rattle.nodes.specs.declared.types.Colour.TheVariants.{Red, Black}
 use Rattle.nodes.specs.declared.types.Tree.{Tree}
 use Rattle.nodes.specs.declared.types.Tree.TheVariants.{Empty, Place'}
-use Rattle.nodes.specs.Trees.{items, long, placed, blacks, weight, red, ruddy, Balanced, Calm, Legal, Weighed}
+use Rattle.nodes.specs.Trees.{items, placed, blacks, red, Balanced, Legal, Weighed}
 use Rattle.seeking.specs.Depths.{deep}
 
 -- no deeper than it has places

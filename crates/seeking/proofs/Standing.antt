@@ -1,7 +1,7 @@
 -- What the parts of a tree say of the items of the whole. Assumes nothing.
-use Rattle.std.proofs.Common.{◌≡◌, ℕ, ◌+◌, ◌<◌, ◌≤◌, List, [], ◌∷◌, ◌++◌, length, Box, sym, refl, ap, ◌∙◌, subst, arith, length-append}
+use Rattle.std.proofs.Common.{◌≡◌, ◌+◌, ◌≤◌, List, [], ◌∷◌, ◌++◌, length, Box, sym, refl, ap, ◌∙◌, subst, arith, length-append}
 use Rattle.std.specs.declared.alloc.Global.{Global}
-use Rattle.measure.specs.Totals.{Monoid, total}
+use Rattle.measure.specs.Totals.{Monoid}
 use Rattle.measure.proofs.Totals.{total_append}
 use Rattle.nodes.specs.declared.types.Item.{Item}
 use Rattle.nodes.specs.declared.types.Node.{Node}

@@ -1,4 +1,6 @@
 // Seeking in a tree of pieces: the piece that holds an offset or a break, with what lies before it, and the tree's depth.
+#![tactic(auto)]
+
 mod deepest;
 mod seek;
 mod types;

@@ -1,5 +1,5 @@
 -- What a writer leaves at the front of a buffer that has room. Assumes nothing.
-use Rattle.std.proofs.Common.{◌≡◌, ℕ, zero, suc, ◌+◌, ◌^◌, ◌<◌, ◌≤◌, min, List, [], ◌∷◌, ◌++◌, length, take, drop, replicate, Some, None, decimal, Option, unwrap_or, refl, ap, ◌∙◌, zero-add, arith, length-append}
+use Rattle.std.proofs.Common.{◌≡◌, ℕ, zero, suc, ◌+◌, ◌^◌, ◌<◌, ◌≤◌, min, List, [], ◌∷◌, length, take, drop, replicate, Some, None, decimal, Option, unwrap_or, refl, ap, ◌∙◌, zero-add, arith, length-append}
 use Rattle.std.proofs.lemmas.List.{take_at}
 use Rattle.printing.specs.Numerals.{denial_line, totals_line}
 use Rattle.printing.specs.Output.{Put}

@@ -1,7 +1,5 @@
 -- What is printed for an input. Assumes nothing.
 use Rattle.std.specs.Prelude.{ℕ, List, map, Ok, Err, Result}
-use Rattle.measure.specs.declared.types.Fingerprint.{Fingerprint}
-use Rattle.measure.specs.declared.types.Tally.{Tally}
 use Rattle.measure.specs.Fingerprints.{no_bytes, one_byte, bytes_joined}
 use Rattle.measure.specs.Tallies.{none_typed, one_typed, typed_joined}
 use Rattle.measure.specs.Totals.{total}

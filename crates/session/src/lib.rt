@@ -1,4 +1,6 @@
 // A session: it reads a paper, that is a set text and a script, and gives what is printed for it.
+#![tactic(auto)]
+
 ghost use Rattle.std.specs.Prelude.{◌≡◌, map, take, IfOk};
 ghost use Rattle.std.specs.Option.{unwrap_or};
 ghost use Rattle.printing.specs.Numerals.{denial_line, totals_line};

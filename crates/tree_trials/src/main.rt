@@ -1,5 +1,7 @@
 // Trials of the piece tree: tens of thousands of pieces, split and put together again in other orders at random offsets, and
 // held against a plain list of the pieces.
+#![tactic(auto)]
+
 ghost use Rattle.std.specs.Prelude.{◌≡◌, ◌+◌, ◌^◌, ◌<◌, ◌≤◌, IfOk};
 ghost use Rattle.nodes.specs.Trees.{long, broken, Balanced, Fair, Weighed};
 

@@ -1,4 +1,4 @@
-use Rattle.std.proofs.Common.{take, sym, ap, ◌∙◌, arith, take_all, rules}
+use Rattle.std.proofs.Common.{ap, ◌∙◌, arith, take_all, rules}
 use Rattle.measure.specs.Totals.{total}
 use Rattle.measure.proofs.Totals.{total_append, total_more}
 use Rattle.measure.proofs.fold.Goals as goal

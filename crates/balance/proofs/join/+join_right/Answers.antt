@@ -1,5 +1,5 @@
-use Rattle.std.proofs.Common.{◌≡◌, sym, ap, ◌∙◌, rules}
-use Rattle.nodes.specs.Trees.{items, blacks}
+use Rattle.std.proofs.Common.{ap, rules}
+use Rattle.nodes.specs.Trees.{items}
 use Rattle.nodes.proofs.Shapes.{turned, sides_summed}
 use Rattle.balance.proofs.join.+join_right.Goals as goal
 

@@ -1,4 +1,4 @@
-use Rattle.std.proofs.Common.{sym, ap, ◌∙◌, arith}
+use Rattle.std.proofs.Common.{sym, arith}
 use Rattle.nodes.proofs.Shapes.{upright_left}
 use Rattle.balance.proofs.join.balance_left.Goals as goal
 

@@ -1,4 +1,4 @@
-use Rattle.std.proofs.Common.{◌≡◌, ◌+◌, cond, sym, ap, ◌∙◌, arith, rules}
+use Rattle.std.proofs.Common.{◌≡◌, ◌+◌, cond, ap, ◌∙◌, arith}
 use Rattle.nodes.specs.Trees.{items, blacks}
 use Rattle.nodes.proofs.Shapes.{turned, open_right, sides_summed}
 use Rattle.balance.proofs.Opening.{parts}

@@ -1,4 +1,4 @@
-use Rattle.std.proofs.Common.{refl, rules}
+use Rattle.std.proofs.Common.{rules}
 use Rattle.measure.specs.Totals.{total}
 use Rattle.ledger.proofs.Groups.{retracts, strikes, unchanging}
 use Rattle.ledger.proofs.Reached.{reached_legal, redo_takes_undo_back, undo_takes_redo_back}

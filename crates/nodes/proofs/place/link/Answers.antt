@@ -1,4 +1,4 @@
-use Rattle.std.proofs.Common.{arith, rules}
+use Rattle.std.proofs.Common.{rules}
 use Rattle.nodes.proofs.Bounds.{within}
 use Rattle.nodes.proofs.place.link.Goals as goal
 

@@ -1,5 +1,4 @@
-use Rattle.std.proofs.Common.{ap, arith, rules}
-use Rattle.nodes.specs.Trees.{blacks}
+use Rattle.std.proofs.Common.{rules}
 use Rattle.nodes.proofs.Bounds.{low_place}
 use Rattle.piece_tree.proofs.joining.+black_height.Goals as goal
 

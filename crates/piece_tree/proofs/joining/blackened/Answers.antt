@@ -1,4 +1,4 @@
-use Rattle.std.proofs.Common.{◌+◌, ◌≤◌, cond, sym, subst, arith, rules}
+use Rattle.std.proofs.Common.{◌+◌, ◌≤◌, cond, sym, subst, arith}
 use Rattle.nodes.specs.Trees.{blacks, long}
 use Rattle.nodes.proofs.Bounds.{low}
 use Rattle.piece_tree.proofs.joining.blackened.Goals as goal

@@ -1,5 +1,5 @@
-use Rattle.std.proofs.Common.{◌≡◌, sym, ap, ◌∙◌, subst, arith}
-use Rattle.nodes.specs.Trees.{blacks, long, items, Balanced, Summed, Weighed}
+use Rattle.std.proofs.Common.{sym, ap, ◌∙◌, subst, arith}
+use Rattle.nodes.specs.Trees.{blacks, long, Balanced, Summed, Weighed}
 use Rattle.piece_tree.proofs.joining.join.Goals as goal
 
 pub tall-left-requires : goal.tall-left-requires

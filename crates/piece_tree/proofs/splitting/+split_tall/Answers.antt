@@ -1,4 +1,4 @@
-use Rattle.std.proofs.Common.{◌≡◌, sym, ap, ◌∙◌, rules}
+use Rattle.std.proofs.Common.{ap, rules}
 use Rattle.nodes.specs.Trees.{items}
 use Rattle.nodes.proofs.Shapes.{turned, sides_summed}
 use Rattle.piece_tree.proofs.splitting.+split_tall.Goals as goal

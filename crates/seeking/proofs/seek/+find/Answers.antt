@@ -1,5 +1,4 @@
-use Rattle.std.proofs.Common.{◌≡◌, ◌+◌, sym, refl, ap, ◌∙◌, arith, rules}
-use Rattle.nodes.specs.Trees.{whole}
+use Rattle.std.proofs.Common.{refl, ap, ◌∙◌, arith}
 use Rattle.seeking.proofs.Standing.{opens, stands_left, stands_here, stands_right}
 use Rattle.seeking.proofs.seek.+find.Goals as goal
 
