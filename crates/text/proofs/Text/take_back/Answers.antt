@@ -3,8 +3,8 @@ use Rattle.pieces.proofs.Props.{untruncated}
 use Rattle.text.proofs.Sourced.{cut_back, faithful_less, same_written, standing_cut}
 use Rattle.text.proofs.Text.take_back.Goals as goal
 
-pub invariant-of-self : goal.invariant-of-self
-invariant-of-self g c =
+pub invariant_of-self : goal.invariant_of-self
+invariant_of-self g c =
     let self = c.args.self.now in
     let before = vec_items self.added in
     let after = vec_items c.truncate.new.self in
