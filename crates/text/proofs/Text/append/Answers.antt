@@ -11,7 +11,7 @@ invariant_of-self g c =
     let new = c.args.new.now in
     let longer = ap length c.push_all.ensures.items ∙ length-append before new in
     let stands = standing_more (length self.original.now) (length before) (length after) (omega (arith, longer)) self.tree (untruncated self.standing) in
-    (∣ stands ∣₁, (self.short, (self.few, (self.ample, (self.room, tt)))))
+    record { standing = ∣ stands ∣₁; short = self.short; few = self.few; ample = self.ample; room = self.room }
 
 pub returns : goal.returns
 returns g c =

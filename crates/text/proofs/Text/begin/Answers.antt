@@ -10,10 +10,5 @@ invariant_of-result g c =
     let tree = c.whole_tree-tree.result in
     let made = c.whole_tree-tree.ensures in
     let stands = subst (λ added. Standing (length original) (length added) tree) c.deref.ensures.value made.standing in
-    let few = one_at_most (length original) (length (items tree)) c.args.limit made.few.0 made.few.1 c.requires.one in (
-      ∣ stands ∣₁,
-      (
-        omega (arith, made.long, c.requires.short),
-        (few, (λ some. omega (arith, c.requires.ample some, made.stock), (omega (arith, made.stock, made.capacity, c.args.stock.ok.1), tt))),
-      ),
-    )
+    let few = one_at_most (length original) (length (items tree)) c.args.limit made.few.0 made.few.1 c.requires.one in
+    record { standing = ∣ stands ∣₁; short = omega (arith, made.long, c.requires.short); few = few; ample = λ some. omega (arith, c.requires.ample some, made.stock); room = omega (arith, made.stock, made.capacity, c.args.stock.ok.1) }

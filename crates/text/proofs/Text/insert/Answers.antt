@@ -44,6 +44,6 @@ invariant_of-self g c =
     let after : places c.insert_run.result ≡ take x (text_places t) ++ (run ++ drop x (text_places t)) =
     e.places ∙ ap (λ u. take x (places u) ++ (run ++ drop x (places u))) tree_is in
     let count = count_of c.insert_run.result s in
-    let long-was = ap long tree_is ∙ sym (long_places t.tree (untruncated t.standing).weighed) in
+    let long_was = ap long tree_is ∙ sym (long_places t.tree (untruncated t.standing).weighed) in
     let items_are = ap (λ u. length (items u)) tree_is in
-    (∣ s ∣₁, (omega (arith, e.long, long-was, c.requires.short), (omega (arith, count, ap (λ ps. length (pieces_of ps)) after, c.requires.few), (λ some. omega (arith, t.ample some, e.stock, items_are), (omega (arith, t.room, e.stock, e.capacity, items_are), tt)))))
+    record { standing = ∣ s ∣₁; short = omega (arith, e.long, long_was, c.requires.short); few = omega (arith, count, ap (λ ps. length (pieces_of ps)) after, c.requires.few); ample = λ some. omega (arith, t.ample some, e.stock, items_are); room = omega (arith, t.room, e.stock, e.capacity, items_are) }

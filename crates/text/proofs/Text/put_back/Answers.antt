@@ -44,6 +44,6 @@ invariant_of-self g c =
     subst (λ xs. Standing (length t.original.now) (length xs) c.put_back.result) c.deref.ensures.value e.standing in
     let after : places c.put_back.result ≡ take x (text_places t) ++ (runs ++ drop x (text_places t)) =
     e.places ∙ ap (λ u. take x (places u) ++ (runs ++ drop x (places u))) tree_is in
-    let long-was = ap long tree_is ∙ sym (long_places t.tree (untruncated t.standing).weighed) in
+    let long_was = ap long tree_is ∙ sym (long_places t.tree (untruncated t.standing).weighed) in
     let items_are = ap (λ u. length (items u)) tree_is in
-    (∣ s ∣₁, (omega (arith, e.long, long-was, c.requires.short), (omega (arith, count_of c.put_back.result s, ap (λ ps. length (pieces_of ps)) after, c.requires.few), (λ some. omega (arith, t.ample some, e.stock, items_are), (omega (arith, t.room, e.stock, e.capacity, items_are), tt)))))
+    record { standing = ∣ s ∣₁; short = omega (arith, e.long, long_was, c.requires.short); few = omega (arith, count_of c.put_back.result s, ap (λ ps. length (pieces_of ps)) after, c.requires.few); ample = λ some. omega (arith, t.ample some, e.stock, items_are); room = omega (arith, t.room, e.stock, e.capacity, items_are) }

@@ -37,4 +37,4 @@ invariant_of-self g c =
     e.rest ∙ ap (λ u. take x (places u) ++ drop (x + c.args.count) (places u)) tree_is in
     let items_are = ap (λ u. length (items u)) tree_is in
     let back = c.recycle.ensures in
-    (∣ s ∣₁, (omega (arith, e.long.0, ap long tree_is, t.short), (omega (arith, count_of rest s, ap (λ ps. length (pieces_of ps)) after, c.requires.few), (λ some. omega (arith, t.ample some, e.stock, back.len, items_are), (omega (arith, t.room, e.stock, e.capacity, back.len, back.capacity, items_are), tt)))))
+    record { standing = ∣ s ∣₁; short = omega (arith, e.long.0, ap long tree_is, t.short); few = omega (arith, count_of rest s, ap (λ ps. length (pieces_of ps)) after, c.requires.few); ample = λ some. omega (arith, t.ample some, e.stock, back.len, items_are); room = omega (arith, t.room, e.stock, e.capacity, back.len, back.capacity, items_are) }

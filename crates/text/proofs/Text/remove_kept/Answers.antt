@@ -52,7 +52,7 @@ invariant_of-self g c =
     e.rest ∙ ap (λ u. take x (places u) ++ drop (x + c.args.count) (places u)) tree_is in
     let items_are = ap (λ u. length (items u)) tree_is in
     let back = c.keep_runs.ensures in
-    (∣ s ∣₁, (omega (arith, e.long.0, ap long tree_is, t.short), (omega (arith, count_of rest s, ap (λ ps. length (pieces_of ps)) after, c.requires.few), (λ some. omega (arith, t.ample some, e.stock, back.stock, items_are), (omega (arith, t.room, e.stock, e.capacity, back.stock, back.capacity.0, items_are), tt)))))
+    record { standing = ∣ s ∣₁; short = omega (arith, e.long.0, ap long tree_is, t.short); few = omega (arith, count_of rest s, ap (λ ps. length (pieces_of ps)) after, c.requires.few); ample = λ some. omega (arith, t.ample some, e.stock, back.stock, items_are); room = omega (arith, t.room, e.stock, e.capacity, back.stock, back.capacity.0, items_are) }
 
 pub returns : goal.returns
 returns g c =

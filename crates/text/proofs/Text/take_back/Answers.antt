@@ -11,7 +11,7 @@ invariant_of-self g c =
     let count = vec_len self.added - c.args.count in
     let left : after ≡ take count before = c.truncate.ensures.items ∙ ap (λ n. take (n - c.args.count) before) c.len.ensures in
     let stands = standing_cut self.original.now before after count self.tree left c.requires.unused (untruncated self.standing) in
-    (∣ stands ∣₁, (self.short, (self.few, (self.ample, (self.room, tt)))))
+    record { standing = ∣ stands ∣₁; short = self.short; few = self.few; ample = self.ample; room = self.room }
 
 pub returns : goal.returns
 returns g c =
