@@ -20,7 +20,7 @@ pub type Totals = Pair<Fingerprint, Tally>;
 
 // What is printed for an input: a denial of it, or the totals of its set text.
 pub fn run<E: Element>(heap: Global, input: &[u8]) -> Result<Vec<u8>, AllocError>
-    ensures { IfOk result (λ v. v.items ≡ report made shown typist input.now) }
+    ensures { IfOk result (λ v. v.items ≡ report E.made E.shown E.typist input.now) }
 {
     match read_paper(input) {
         Ok(paper) => print_text::<E>(heap, paper.set_text),
@@ -30,7 +30,7 @@ pub fn run<E: Element>(heap: Global, input: &[u8]) -> Result<Vec<u8>, AllocError
 
 // The line of totals of a set text.
 fn print_text<E: Element>(heap: Global, text: &[u8]) -> Result<Vec<u8>, AllocError>
-    ensures { IfOk result (λ v. v.items ≡ totals_of shown typist (map (λ b. made b 0) text.now)) }
+    ensures { IfOk result (λ v. v.items ≡ totals_of E.shown E.typist (map (λ b. E.made b 0) text.now)) }
 {
     let elements: Vec<E> = set_elements(heap, text)?;
     print_totals(heap, fold(&elements))
@@ -38,7 +38,7 @@ fn print_text<E: Element>(heap: Global, text: &[u8]) -> Result<Vec<u8>, AllocErr
 
 // The elements of a set text.
 fn set_elements<E: Element>(heap: Global, text: &[u8]) -> Result<Vec<E>, AllocError>
-    ensures { IfOk result (λ v. v.items ≡ map (λ b. made b 0) text.now) }
+    ensures { IfOk result (λ v. v.items ≡ map (λ b. E.made b 0) text.now) }
 {
     let mut elements = Vec::new(heap);
     for byte in text {
@@ -49,7 +49,7 @@ fn set_elements<E: Element>(heap: Global, text: &[u8]) -> Result<Vec<E>, AllocEr
 
 // The element of a set text that shows a byte.
 fn set_element<E: Element>(byte: u8) -> E
-    ensures { result ≡ made byte 0 }
+    ensures { result ≡ E.made byte 0 }
 {
     E::make(byte, SET_HAND)
 }

@@ -9,5 +9,5 @@ returns c =
     let buffer = c.args.buffer.now in
     let stop = c.min-stop.ensures ∙ ap (λ n. min n (length buffer)) c.unwrap_or.ensures in
     IfOk-weaker c.from_slice.result _ _
-    (λ v made. made.0 ∙ ap (λ n. take n buffer) (sub-zero c.min-stop.result ∙ stop) ∙ take_clamped _ buffer)
-    c.from_slice.ensures.made
+    (λ v copied. copied ∙ ap (λ n. take n buffer) (sub-zero c.min-stop.result ∙ stop) ∙ take_clamped _ buffer)
+    c.from_slice.ensures.items

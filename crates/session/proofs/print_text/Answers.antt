@@ -15,9 +15,9 @@ returns g c =
     let e = g.E.Element in
     let shown : g.row.E.Denot → ℕ = e.shown in
     let typist : g.row.E.Denot → ℕ = e.typist in
-    let elements : c.deref.result.now ≡ map (λ b. e.made b 0) c.args.text.now = c.deref.ensures.value ∙ c.in-ok-elements.ensures in
+    let elements : c.deref.result.now ≡ map (λ b. e.made b 0) c.args.text.now = c.deref.ensures.value ∙ c.in_ok-elements.ensures in
     let split = c.fold.ensures.whole ∙ total_pair no_bytes none_typed (λ x. one_byte (shown x)) (λ x. one_typed (typist x)) bytes_joined typed_joined c.deref.result.now in
     let line : Pair Fingerprint Tally → List ℕ = λ t. totals_line t.first.value t.second.count in
-    IfOk-weaker c.print-totals.result _ _
+    IfOk-weaker c.print_totals.result _ _
     (λ v printed. printed ∙ ap line split ∙ ap (totals_of shown typist) elements)
-    c.print-totals.ensures
+    c.print_totals.ensures

@@ -8,8 +8,8 @@ loop-byte-preserved g c =
     let made : ℕ → g.row.E.Denot = λ b. g.E.Element.made b 0 in
     let text = c.args.text.now in
     let i = c.loop-byte.byte-index in
-    pushed (c.set-element.result ∷ []) c.loop-byte.invariant c.in-ok-push.was c.push.ensures.items
-    ∙ ap (λ e. map made (take i text) ++ e ∷ []) c.set-element.ensures
+    pushed (c.set_element.result ∷ []) c.loop-byte.invariant c.in_ok-push.was c.push.ensures.items
+    ∙ ap (λ e. map made (take i text) ++ e ∷ []) c.set_element.ensures
     ∙ sym (map_more made text i 0 c.loop-byte-test.true)
 
 pub returns : goal.returns

@@ -3,7 +3,8 @@ use Rattle.archive.specs.Volumes.{Filed, Stored}
 use Rattle.archive.proofs.Archive.begin.Goals as goal
 
 pub invariant_of-result : goal.invariant_of-result
-invariant_of-result c = (
-  ∣ subst (λ l. Filed (reverse l) 0) (sym c.clear.ensures.items) refl ∣₁,
-  (∣ subst (λ l. Stored (reverse l) 0) (sym c.clear-2.ensures.items) refl ∣₁, (omega arith, tt)),
-)
+invariant_of-result c = record {
+  filed = ∣ subst (λ l. Filed (reverse l) 0) (sym c.clear.ensures.items) refl ∣₁;
+  stored = ∣ subst (λ l. Stored (reverse l) 0) (sym c.clear-2.ensures.items) refl ∣₁;
+  within = omega arith;
+}

@@ -11,13 +11,12 @@ invariant_of-self c =
     let pushed = c.push_reserved.ensures in
     let before = self.entries.items in
     let after = c.push_reserved.new.self.items in
-    let entry : Entry = record { step = c.args.step; marks = c.args.marks; first = self.runs; kept = c.args.kept } in (
-      self.filed,
-      (
-        ∣ stored_last after before entry (self.runs + c.args.kept) pushed.items refl (stored (reverse before) self.runs self.stored) ∣₁,
-        (omega (arith, pushed.len, self.within), tt),
-      ),
-    )
+    let entry : Entry = record { step = c.args.step; marks = c.args.marks; first = self.runs; kept = c.args.kept } in
+    record {
+      filed = self.filed;
+      stored = ∣ stored_last after before entry (self.runs + c.args.kept) pushed.items refl (stored (reverse before) self.runs self.stored) ∣₁;
+      within = omega (arith, pushed.len, self.within);
+    }
 
 pub returns : goal.returns
 returns c =

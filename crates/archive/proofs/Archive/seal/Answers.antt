@@ -13,10 +13,12 @@ invariant_of-self c =
     let before = self.chapters.items in
     let after = c.push_reserved.new.self.items in
     let chapter : Chapter = record { parent = c.args.parent; favoured = None; first = self.sealed; count = made - self.sealed; link = 0 } in
-    let known = filed (reverse before) self.sealed self.filed in (
-      ∣ filed_more after before chapter made pushed.items (omega (arith, self.within, c.len-made.ensures)) known ∣₁,
-      (self.stored, (omega (arith, c.len-made.ensures), tt)),
-    )
+    let known = filed (reverse before) self.sealed self.filed in
+    record {
+      filed = ∣ filed_more after before chapter made pushed.items (omega (arith, self.within, c.len-made.ensures)) known ∣₁;
+      stored = self.stored;
+      within = omega (arith, c.len-made.ensures);
+    }
 
 pub returns : goal.returns
 returns c =

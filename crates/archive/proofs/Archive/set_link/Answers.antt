@@ -15,7 +15,7 @@ pub invariant_of-self-else-version-eq0 : goal.invariant_of-self-else-version-eq0
 invariant_of-self-else-version-eq0 c =
     let f = linked_filed c.args.self.now c.args.version c.chapter_at-chapter.result c.deref.result.now c.deref.ensures.value
     c.requires.made c.if-version-eq0.false c.chapter_at-chapter.ensures c.args.next in
-    (∣ f ∣₁, (c.args.self.now.stored, (c.args.self.now.within, tt)))
+    record { filed = ∣ f ∣₁; stored = c.args.self.now.stored; within = c.args.self.now.within }
 
 pub returns-then-version-eq0 : goal.returns-then-version-eq0
 returns-then-version-eq0 c =

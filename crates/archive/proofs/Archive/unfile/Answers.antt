@@ -15,7 +15,7 @@ invariant_of-self c =
     let runs = stored_first all rest newest self.runs items (stored (reverse all) self.runs self.stored) in
     let past = some_past all self.entries.len self.sealed c.requires.some in
     let long = one_off self.entries.len c.pop.new.self.len c.pop.result newest c.unwrap-newest.ensures popped.len in
-    (self.filed, (∣ runs.1 ∣₁, (omega (arith, past, long), tt)))
+    record { filed = self.filed; stored = ∣ runs.1 ∣₁; within = omega (arith, past, long) }
 
 pub returns : goal.returns
 returns c =
