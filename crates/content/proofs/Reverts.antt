@@ -11,9 +11,9 @@ use Rattle.ledger.specs.declared.words.Step.TheVariants.{Insert, Delete, SetMark
 use Rattle.marks.specs.Bounds.{Inside}
 use Rattle.marks.specs.Tables.{marks_of}
 use Rattle.marks.specs.declared.table.Marks.{Marks}
+use Rattle.pieces.proofs.Elements.{elements_append}
 use Rattle.pieces.proofs.Spreads.{stretch_length}
 use Rattle.pieces.specs.Spread.{spelled}
-use Rattle.reading.proofs.LineItems.{elements_append}
 use Rattle.reading.proofs.Longest.{spelled_pieces}
 use Rattle.text.proofs.Edited.{some_pieces}
 use Rattle.text.specs.Texts.{added_of, original_of, text_places}

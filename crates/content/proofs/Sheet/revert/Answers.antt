@@ -10,9 +10,9 @@ restore-requires g c =
       few = few_again s c.args.marks c.args.step c.args.runs.now c.requires.undoable;
     }
 
-pub invariant-of-self : goal.invariant-of-self
-invariant-of-self g c =
-    (inside_again c.args.self.now c.args.marks c.args.step c.args.runs.now (text_places c.restore.new.text) c.restore.ensures.places c.requires.undoable, tt)
+pub invariant_of-self : goal.invariant_of-self
+invariant_of-self g c =
+    record { inside = inside_again c.args.self.now c.args.marks c.args.step c.args.runs.now (text_places c.restore.new.text) c.restore.ensures.places c.requires.undoable }
 
 pub returns : goal.returns
 returns g c =
@@ -20,5 +20,5 @@ returns g c =
     record {
       content = λ before made. content_again c.args.self.now c.args.marks c.args.step c.args.runs.now (text_places c.restore.new.text) before e.places made;
       kept = e.kept;
-      measured = e.decreases;
+      measured = e.measured;
     }

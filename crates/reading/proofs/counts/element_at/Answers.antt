@@ -4,8 +4,8 @@ use Rattle.pieces.proofs.Elements.{part_long}
 use Rattle.reading.proofs.Places.{element_found, inside_at}
 use Rattle.reading.proofs.counts.element_at.Goals as goal
 
-pub source-part-part-requires : goal.source-part-part-requires
-source-part-part-requires g c =
+pub source_part-part-requires : goal.source_part-part-requires
+source_part-part-requires g c =
     let s = c.find-found.ensures.stands in
     let original = length c.args.original.now in
     let added = length c.args.added.now in
@@ -20,10 +20,10 @@ bounds-part-found g c =
     let added = c.args.added.now in
     let inside = inside_at (length original) (length added) s.front i s.back (subst (Inside (length original) (length added)) s.parts c.requires.inside) in
     let long = part_long original added i.piece i.length inside.1 in
-    omega (arith, long, ap length c.source-part-part.ensures, c.find-found.ensures.inner)
+    omega (arith, long, ap length c.source_part-part.ensures, c.find-found.ensures.inner)
 
-pub offset-bounds-part-found : goal.offset-bounds-part-found
-offset-bounds-part-found g c = let below = bounds-part-found g c in omega (arith, below)
+pub offset_bounds-part-found : goal.offset_bounds-part-found
+offset_bounds-part-found g c = let below = bounds-part-found g c in omega (arith, below)
 
 pub returns : goal.returns
 returns g c =
@@ -33,4 +33,4 @@ returns g c =
     let n = c.find-found.result.inner in
     let e = c.index-part-found.result in
     element_found c.args.original.now c.args.added.now c.args.tree.now s.front i s.back n c.args.offset e c.requires.inside s.parts (omega (arith, s.elements, f.offset)) f.inner
-    (c.index-part-found.is ∙ ap (λ part. get_or part n e) c.source-part-part.ensures)
+    (c.index-part-found.is ∙ ap (λ part. get_or part n e) c.source_part-part.ensures)

@@ -20,4 +20,4 @@ returns g c =
     let n = c.find-found.result.inner in
     let front = take c.args.low (places c.args.tree.now) in
     let at = place_found c.args.tree.now s.front i s.back n c.args.high s.parts (omega (arith, s.elements, f.offset)) f.inner in
-    c.meet-behind.ensures ∙ sym (joint_ahead front (places c.args.tree.now) c.args.high (place i.piece.source (i.piece.index + n)) at)
+    c.meet_behind.ensures ∙ sym (joint_ahead front (places c.args.tree.now) c.args.high (place i.piece.source (i.piece.index + n)) at)

@@ -10,8 +10,8 @@ returns-then-offset-all g c =
     let none = none_behind c.args.tree.now c.requires.weighed c.args.offset (omega (arith, c.sums-all.ensures.length)) in
     sym (ap (λ ps. length (pieces_of ps)) none)
 
-pub overflow-sub-result : goal.overflow-sub-result
-overflow-sub-result g c =
+pub overflow_sub-result : goal.overflow_sub-result
+overflow_sub-result g c =
     let f = c.find.ensures in
     let s = f.stands in
     let count = count_from c.args.tree.now c.requires.weighed c.requires.apart s.front c.find.result.item s.back s.parts c.find.result.inner c.args.offset (omega (arith, s.elements, f.offset)) f.inner in

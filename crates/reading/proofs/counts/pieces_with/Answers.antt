@@ -3,34 +3,34 @@ use Rattle.pieces.specs.Spread.{places}
 use Rattle.reading.proofs.Changes.{few_before, few_behind, run_pieces}
 use Rattle.reading.proofs.counts.pieces_with.Goals as goal
 
-pub overflow-add-result : goal.overflow-add-result
-overflow-add-result g c =
+pub overflow_add-result : goal.overflow_add-result
+overflow_add-result g c =
     let few = few_before c.args.tree.now c.requires.weighed c.args.offset c.requires.within in
-    omega (arith, few, c.pieces-before.ensures, c.requires.fits, c.requires.within)
+    omega (arith, few, c.pieces_before.ensures, c.requires.fits, c.requires.within)
 
-pub overflow-add-result-2 : goal.overflow-add-result-2
-overflow-add-result-2 g c =
+pub overflow_add-result-2 : goal.overflow_add-result-2
+overflow_add-result-2 g c =
     let few = few_before c.args.tree.now c.requires.weighed c.args.offset c.requires.within in
     let behind = few_behind c.args.tree.now c.requires.weighed c.args.offset c.requires.within in
-    omega (arith, few, behind, c.pieces-before.ensures, c.pieces-behind.ensures, c.requires.fits)
+    omega (arith, few, behind, c.pieces_before.ensures, c.pieces_behind.ensures, c.requires.fits)
 
-pub overflow-sub-result : goal.overflow-sub-result
-overflow-sub-result g c =
+pub overflow_sub-result : goal.overflow_sub-result
+overflow_sub-result g c =
     let ps = places c.args.tree.now in
     let x = c.args.offset in
     let run = run_pieces (take x ps) (drop x ps) c.args.first.source c.args.first.index c.args.count c.requires.some in
-    omega (arith, run, c.pieces-before.ensures, c.pieces-behind.ensures, c.meet-behind-front.ensures)
+    omega (arith, run, c.pieces_before.ensures, c.pieces_behind.ensures, c.meet_behind-front.ensures)
 
-pub overflow-sub-result-2 : goal.overflow-sub-result-2
-overflow-sub-result-2 g c =
+pub overflow_sub-result-2 : goal.overflow_sub-result-2
+overflow_sub-result-2 g c =
     let ps = places c.args.tree.now in
     let x = c.args.offset in
     let run = run_pieces (take x ps) (drop x ps) c.args.first.source c.args.first.index c.args.count c.requires.some in
-    omega (arith, run, c.pieces-before.ensures, c.pieces-behind.ensures, c.meet-behind-front.ensures, c.meet-ahead-back.ensures)
+    omega (arith, run, c.pieces_before.ensures, c.pieces_behind.ensures, c.meet_behind-front.ensures, c.meet_ahead-back.ensures)
 
 pub returns : goal.returns
 returns g c =
     let ps = places c.args.tree.now in
     let x = c.args.offset in
     let run = run_pieces (take x ps) (drop x ps) c.args.first.source c.args.first.index c.args.count c.requires.some in
-    omega (arith, run, c.pieces-before.ensures, c.pieces-behind.ensures, c.meet-behind-front.ensures, c.meet-ahead-back.ensures)
+    omega (arith, run, c.pieces_before.ensures, c.pieces_behind.ensures, c.meet_behind-front.ensures, c.meet_ahead-back.ensures)

@@ -3,22 +3,22 @@ use Rattle.pieces.specs.Spread.{places}
 use Rattle.reading.proofs.Changes.{behind_few, part_pieces, placed_pieces}
 use Rattle.reading.proofs.counts.runs_in.Goals as goal
 
-pub overflow-sub-result : goal.overflow-sub-result
-overflow-sub-result g c =
+pub overflow_sub-result : goal.overflow_sub-result
+overflow_sub-result g c =
     let ps = places c.args.tree.now in
     let all = placed_pieces c.args.tree.now c.requires.weighed c.requires.apart in
-    omega (arith, all, behind_few ps c.args.offset, c.sums.ensures.pieces, c.pieces-behind.ensures)
+    omega (arith, all, behind_few ps c.args.offset, c.sums.ensures.pieces, c.pieces_behind.ensures)
 
-pub overflow-sub-result-2 : goal.overflow-sub-result-2
-overflow-sub-result-2 g c =
+pub overflow_sub-result-2 : goal.overflow_sub-result-2
+overflow_sub-result-2 g c =
     let ps = places c.args.tree.now in
     let all = placed_pieces c.args.tree.now c.requires.weighed c.requires.apart in
     let part = part_pieces ps c.args.offset c.args.count (omega arith) in
-    omega (arith, all, part, c.sums.ensures.pieces, c.pieces-behind.ensures, c.pieces-before.ensures)
+    omega (arith, all, part, c.sums.ensures.pieces, c.pieces_behind.ensures, c.pieces_before.ensures)
 
 pub returns : goal.returns
 returns g c =
     let ps = places c.args.tree.now in
     let all = placed_pieces c.args.tree.now c.requires.weighed c.requires.apart in
     let part = part_pieces ps c.args.offset c.args.count (omega arith) in
-    omega (arith, all, part, behind_few ps c.args.offset, c.sums.ensures.pieces, c.pieces-behind.ensures, c.pieces-before.ensures)
+    omega (arith, all, part, behind_few ps c.args.offset, c.sums.ensures.pieces, c.pieces_behind.ensures, c.pieces_before.ensures)

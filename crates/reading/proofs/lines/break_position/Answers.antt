@@ -4,9 +4,9 @@ use Rattle.reading.specs.LineParts.{behind}
 use Rattle.reading.proofs.LineFacts.{over_break, over_plain}
 use Rattle.reading.proofs.lines.break_position.Goals as goal
 
-pub loop-i-preserved-then-not-is-break : goal.loop-i-preserved-then-not-is-break
-loop-i-preserved-then-not-is-break g c =
-    let next = over_plain g.E.Element.breaks c.args.part.now c.loop-i.i c.loop-i.left c.index-part-i.result c.loop-i-test.true c.index-part-i.is c.if-not-is-break.ensures in (
+pub loop-i-preserved-then-not-is_break : goal.loop-i-preserved-then-not-is_break
+loop-i-preserved-then-not-is_break g c =
+    let next = over_plain g.E.Element.breaks c.args.part.now c.loop-i.i c.loop-i.left c.index-part-i.result c.loop-i-test.true c.index-part-i.is c.if-not-is_break.ensures in (
       omega (arith, c.loop-i-test.true),
       omega (arith, c.loop-i.invariant.1, next),
     )
@@ -17,7 +17,7 @@ loop-i-preserved g c =
     let part = c.args.part.now in
     let i = c.loop-i.i in
     let left = c.loop-i.left in
-    let next = over_break breaks part i left c.index-part-i.result c.loop-i-test.true c.index-part-i.is c.if-not-is-break.ensures in
+    let next = over_break breaks part i left c.index-part-i.result c.loop-i-test.true c.index-part-i.is c.if-not-is_break.ensures in
     let one : left ≡ suc (left - 1) = omega (arith, c.if-left-eq0.false) in
     let fewer = ap (λ k. behind breaks k (drop (i + 1) part)) one in (
       omega (arith, c.loop-i-test.true),
@@ -30,7 +30,7 @@ returns-then-left-eq0 g c =
     let part = c.args.part.now in
     let i = c.loop-i.i in
     let left = c.loop-i.left in
-    let next = over_break breaks part i left c.index-part-i.result c.loop-i-test.true c.index-part-i.is c.if-not-is-break.ensures in
+    let next = over_break breaks part i left c.index-part-i.result c.loop-i-test.true c.index-part-i.is c.if-not-is_break.ensures in
     let none = ap (λ k. behind breaks k (drop (i + 1) part)) c.if-left-eq0.true in
     record {
       position = omega (arith, c.loop-i.invariant.1, next, none);

@@ -17,27 +17,27 @@ returns-then-upto-node g t c faithful =
     ∙ whole_total g.E.Element.breaks g.T.Total.neutral g.T.Measure.value g.T.Total.joined g.met.T.Total.monoid original added tree faithful
     ∙ ap (total g.T.Total.neutral g.T.Measure.value g.T.Total.joined) (sym all)
 
-pub part-total-front-requires : goal.part-total-front-requires
-part-total-front-requires g t c κs within =
+pub part_total-front-requires : goal.part_total-front-requires
+part_total-front-requires g t c κs within =
     let o = opens c.in-Place.is c.deref-node.ensures c.requires.weighed c.requires.inside in
     let weighed = o.left_weighed in
     let inside = o.left_inside in
     let long = o.long_are in
     search rules
 
-pub item-total-inner-requires : goal.item-total-inner-requires
-item-total-inner-requires g t c =
+pub item_total-inner-requires : goal.item_total-inner-requires
+item_total-inner-requires g t c =
     let o = opens c.in-Place.is c.deref-node.ensures c.requires.weighed c.requires.inside in
     record {
       inside = o.item_inside;
       within = (
-        omega (arith, c.min-in-Place-2.ensures, c.min-in-Place-3.ensures, c.saturating-sub-begin.ensures, c.saturating-sub-end.ensures, c.requires.within),
+        omega (arith, c.min-in-Place-2.ensures, c.min-in-Place-3.ensures, c.saturating_sub-begin.ensures, c.saturating_sub-end.ensures, c.requires.within),
         omega (arith, c.min-in-Place-3.ensures),
       );
     }
 
-pub part-total-back-requires : goal.part-total-back-requires
-part-total-back-requires g t c κs within =
+pub part_total-back-requires : goal.part_total-back-requires
+part_total-back-requires g t c κs within =
     let o = opens c.in-Place.is c.deref-node.ensures c.requires.weighed c.requires.inside in
     let weighed = o.right_weighed in
     let inside = o.right_inside in
@@ -56,15 +56,15 @@ returns-else-from-eq0 g t c faithful =
     let node = c.deref-node.result.now in
     let count = node.item.length in
     let o = opens c.in-Place.is c.deref-node.ensures c.requires.weighed c.requires.inside in
-    let begin = c.saturating-sub-begin.ensures in
-    let end = c.saturating-sub-end.ensures in
+    let begin = c.saturating_sub-begin.ensures in
+    let end = c.saturating_sub-end.ensures in
     let from_Inner = c.min-in-Place-2.ensures ∙ ap (λ k. min k count) begin in
     let upto-inner = c.min-in-Place-3.ensures ∙ ap (λ k. min k count) end in
-    let from_back = c.saturating-sub-begin-behind.ensures ∙ ap (λ k. k - count) begin in
-    let upto-back = c.saturating-sub-end-behind.ensures ∙ ap (λ k. k - count) end in
-    let front = c.part-total-front.ensures (faithful_left b n v j laws original added o faithful) ∙ (λ i. total n v j (part (c.min.ensures i) (c.min-in-Place.ensures i) (elements original added node.left))) in
-    let inner = c.item-total-inner.ensures (faithful_item b n v j laws original added o faithful) ∙ (λ i. total n v j (part (from_Inner i) (upto-inner i) (source_part original added node.item.piece count))) in
-    let back = c.part-total-back.ensures (faithful_right b n v j laws original added o faithful) ∙ (λ i. total n v j (part (from_back i) (upto-back i) (elements original added node.right))) in
+    let from_back = c.saturating_sub-begin_behind.ensures ∙ ap (λ k. k - count) begin in
+    let upto-back = c.saturating_sub-end_behind.ensures ∙ ap (λ k. k - count) end in
+    let front = c.part_total-front.ensures (faithful_left b n v j laws original added o faithful) ∙ (λ i. total n v j (part (c.min.ensures i) (c.min-in-Place.ensures i) (elements original added node.left))) in
+    let inner = c.item_total-inner.ensures (faithful_item b n v j laws original added o faithful) ∙ (λ i. total n v j (part (from_Inner i) (upto-inner i) (source_part original added node.item.piece count))) in
+    let back = c.part_total-back.ensures (faithful_right b n v j laws original added o faithful) ∙ (λ i. total n v j (part (from_back i) (upto-back i) (elements original added node.right))) in
     c.join-in-Place.ensures
     ∙ (λ i. j ((c.join.ensures ∙ (λ k. j (front k) (inner k))) i) (back i))
     ∙ joined_total b n v j laws original added c.args.from c.args.upto c.sums-left.result.length count o c.sums-left.ensures.length refl

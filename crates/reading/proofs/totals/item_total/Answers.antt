@@ -17,4 +17,4 @@ returns-then-upto-item g c carries =
 pub returns : goal.returns
 returns g c carries =
     let inner = part_inner c.args.original.now c.args.added.now c.args.item.piece c.args.item.length c.args.from c.args.upto c.requires.within.0 c.requires.within.1 in
-    c.fold.ensures.whole ∙ ap (total g.T.Total.neutral g.T.Measure.value g.T.Total.joined) (c.source-part.ensures ∙ sym inner)
+    c.fold.ensures.whole ∙ ap (total g.T.Total.neutral g.T.Measure.value g.T.Total.joined) (c.source_part.ensures ∙ sym inner)

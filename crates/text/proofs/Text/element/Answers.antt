@@ -2,8 +2,8 @@ use Rattle.std.proofs.Common.{arith}
 use Rattle.text.proofs.Standings.{inside_of, long_fits, places_long, standing_of}
 use Rattle.text.proofs.Text.element.Goals as goal
 
-pub element-at-requires : goal.element-at-requires
-element-at-requires g c =
+pub element_at-requires : goal.element_at-requires
+element_at-requires g c =
     let t = c.args.self.now in
     record {
       weighed = (standing_of t).weighed;

@@ -10,8 +10,8 @@ use Rattle.text.specs.Texts.{text_places}
 use Rattle.text.proofs.Edited.{carried, count_of, some_pieces}
 use Rattle.text.proofs.Text.insert.Goals as goal
 
-pub insert-run-requires : goal.insert-run-requires
-insert-run-requires g c =
+pub insert_run-requires : goal.insert_run-requires
+insert_run-requires g c =
     let t = c.args.self.now in
     let tree_is = c.replace-tree.ensures.value in
     let long_is : long c.replace-tree.result ≡ length (text_places t) = ap long tree_is ∙ sym (long_places t.tree (untruncated t.standing).weighed) in
@@ -32,18 +32,18 @@ insert-run-requires g c =
       room = omega (arith, ap (λ u. length (items u)) tree_is, t.room);
     }
 
-pub invariant-of-self : goal.invariant-of-self
-invariant-of-self g c =
+pub invariant_of-self : goal.invariant_of-self
+invariant_of-self g c =
     let t = c.args.self.now in
-    let e = c.insert-run.ensures in
+    let e = c.insert_run.ensures in
     let tree_is = c.replace-tree.ensures.value in
     let x = c.args.offset in
     let run = stretch Added c.args.start c.args.count in
-    let s : Standing (length t.original.now) (length (vec_items t.added)) c.insert-run.result =
-    subst (λ xs. Standing (length t.original.now) (length xs) c.insert-run.result) c.deref.ensures.value e.standing in
-    let after : places c.insert-run.result ≡ take x (text_places t) ++ (run ++ drop x (text_places t)) =
+    let s : Standing (length t.original.now) (length (vec_items t.added)) c.insert_run.result =
+    subst (λ xs. Standing (length t.original.now) (length xs) c.insert_run.result) c.deref.ensures.value e.standing in
+    let after : places c.insert_run.result ≡ take x (text_places t) ++ (run ++ drop x (text_places t)) =
     e.places ∙ ap (λ u. take x (places u) ++ (run ++ drop x (places u))) tree_is in
-    let count = count_of c.insert-run.result s in
-    let long-was = ap long tree_is ∙ sym (long_places t.tree (untruncated t.standing).weighed) in
+    let count = count_of c.insert_run.result s in
+    let long_was = ap long tree_is ∙ sym (long_places t.tree (untruncated t.standing).weighed) in
     let items_are = ap (λ u. length (items u)) tree_is in
-    (∣ s ∣₁, (omega (arith, e.long, long-was, c.requires.short), (omega (arith, count, ap (λ ps. length (pieces_of ps)) after, c.requires.few), (λ some. omega (arith, t.ample some, e.stock, items_are), (omega (arith, t.room, e.stock, e.capacity, items_are), tt)))))
+    record { standing = ∣ s ∣₁; short = omega (arith, e.long, long_was, c.requires.short); few = omega (arith, count, ap (λ ps. length (pieces_of ps)) after, c.requires.few); ample = λ some. omega (arith, t.ample some, e.stock, items_are); room = omega (arith, t.room, e.stock, e.capacity, items_are) }

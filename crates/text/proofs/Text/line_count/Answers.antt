@@ -2,8 +2,8 @@ use Rattle.std.proofs.Common.{arith}
 use Rattle.text.proofs.Standings.{inside_of, long_fits, standing_of}
 use Rattle.text.proofs.Text.line_count.Goals as goal
 
-pub line-count-requires : goal.line-count-requires
-line-count-requires g c =
+pub line_count-requires : goal.line_count-requires
+line_count-requires g c =
     let t = c.args.self.now in
     record {
       weighed = (standing_of t).weighed;

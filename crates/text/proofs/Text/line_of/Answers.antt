@@ -2,8 +2,8 @@ use Rattle.std.proofs.Common.{arith}
 use Rattle.text.proofs.Standings.{inside_of, long_fits, places_long, standing_of}
 use Rattle.text.proofs.Text.line_of.Goals as goal
 
-pub line-of-requires : goal.line-of-requires
-line-of-requires g c =
+pub line_of-requires : goal.line_of-requires
+line_of-requires g c =
     let t = c.args.self.now in
     record {
       weighed = (standing_of t).weighed;

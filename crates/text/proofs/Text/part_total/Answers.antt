@@ -2,8 +2,8 @@ use Rattle.std.proofs.Common.{arith}
 use Rattle.text.proofs.Standings.{inside_of, long_fits, places_long, standing_of}
 use Rattle.text.proofs.Text.part_total.Goals as goal
 
-pub part-total-requires : goal.part-total-requires
-part-total-requires g c =
+pub part_total-requires : goal.part_total-requires
+part_total-requires g c =
     let t = c.args.self.now in
     record {
       weighed = (standing_of t).weighed;

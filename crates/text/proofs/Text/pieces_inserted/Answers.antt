@@ -2,8 +2,8 @@ use Rattle.std.proofs.Common.{arith}
 use Rattle.text.proofs.Standings.{long_fits, places_long, standing_of}
 use Rattle.text.proofs.Text.pieces_inserted.Goals as goal
 
-pub pieces-with-requires : goal.pieces-with-requires
-pieces-with-requires g c =
+pub pieces_with-requires : goal.pieces_with-requires
+pieces_with-requires g c =
     let t = c.args.self.now in
     record {
       weighed = (standing_of t).weighed;

@@ -9,8 +9,8 @@ use Rattle.text.proofs.Edited.{all_fit, carried, count_of, counted_between, some
 use Rattle.reading.proofs.Counting.{pieces_few}
 use Rattle.text.proofs.Text.put_back.Goals as goal
 
-pub put-back-requires : goal.put-back-requires
-put-back-requires g c =
+pub put_back-requires : goal.put_back-requires
+put_back-requires g c =
     let t = c.args.self.now in
     let s = untruncated t.standing in
     let tree_is = c.replace-tree.ensures.value in
@@ -33,17 +33,17 @@ put-back-requires g c =
       room = omega (arith, ap (λ u. length (items u)) tree_is, t.room);
     }
 
-pub invariant-of-self : goal.invariant-of-self
-invariant-of-self g c =
+pub invariant_of-self : goal.invariant_of-self
+invariant_of-self g c =
     let t = c.args.self.now in
-    let e = c.put-back.ensures in
+    let e = c.put_back.ensures in
     let tree_is = c.replace-tree.ensures.value in
     let x = c.args.offset in
     let runs = spelled c.args.runs.now in
-    let s : Standing (length t.original.now) (length (vec_items t.added)) c.put-back.result =
-    subst (λ xs. Standing (length t.original.now) (length xs) c.put-back.result) c.deref.ensures.value e.standing in
-    let after : places c.put-back.result ≡ take x (text_places t) ++ (runs ++ drop x (text_places t)) =
+    let s : Standing (length t.original.now) (length (vec_items t.added)) c.put_back.result =
+    subst (λ xs. Standing (length t.original.now) (length xs) c.put_back.result) c.deref.ensures.value e.standing in
+    let after : places c.put_back.result ≡ take x (text_places t) ++ (runs ++ drop x (text_places t)) =
     e.places ∙ ap (λ u. take x (places u) ++ (runs ++ drop x (places u))) tree_is in
-    let long-was = ap long tree_is ∙ sym (long_places t.tree (untruncated t.standing).weighed) in
+    let long_was = ap long tree_is ∙ sym (long_places t.tree (untruncated t.standing).weighed) in
     let items_are = ap (λ u. length (items u)) tree_is in
-    (∣ s ∣₁, (omega (arith, e.long, long-was, c.requires.short), (omega (arith, count_of c.put-back.result s, ap (λ ps. length (pieces_of ps)) after, c.requires.few), (λ some. omega (arith, t.ample some, e.stock, items_are), (omega (arith, t.room, e.stock, e.capacity, items_are), tt)))))
+    record { standing = ∣ s ∣₁; short = omega (arith, e.long, long_was, c.requires.short); few = omega (arith, count_of c.put_back.result s, ap (λ ps. length (pieces_of ps)) after, c.requires.few); ample = λ some. omega (arith, t.ample some, e.stock, items_are); room = omega (arith, t.room, e.stock, e.capacity, items_are) }

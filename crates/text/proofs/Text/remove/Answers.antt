@@ -8,8 +8,8 @@ use Rattle.text.specs.Texts.{text_places}
 use Rattle.text.proofs.Edited.{carried, count_of, some_pieces}
 use Rattle.text.proofs.Text.remove.Goals as goal
 
-pub take-out-rest-requires : goal.take-out-rest-requires
-take-out-rest-requires g c =
+pub take_out-rest-requires : goal.take_out-rest-requires
+take_out-rest-requires g c =
     let t = c.args.self.now in
     let s = untruncated t.standing in
     let tree_is = c.replace-tree.ensures.value in
@@ -24,17 +24,17 @@ take-out-rest-requires g c =
       room = omega (arith, ap (λ u. length (items u)) tree_is, t.room);
     }
 
-pub invariant-of-self : goal.invariant-of-self
-invariant-of-self g c =
+pub invariant_of-self : goal.invariant_of-self
+invariant_of-self g c =
     let t = c.args.self.now in
-    let e = c.take-out-rest.ensures in
+    let e = c.take_out-rest.ensures in
     let tree_is = c.replace-tree.ensures.value in
     let x = c.args.offset in
-    let rest = c.take-out-rest.result.0 in
+    let rest = c.take_out-rest.result.0 in
     let s : Standing (length t.original.now) (length (vec_items t.added)) rest =
     subst (λ xs. Standing (length t.original.now) (length xs) rest) c.deref.ensures.value e.standing.0 in
     let after : places rest ≡ take x (text_places t) ++ drop (x + c.args.count) (text_places t) =
     e.rest ∙ ap (λ u. take x (places u) ++ drop (x + c.args.count) (places u)) tree_is in
     let items_are = ap (λ u. length (items u)) tree_is in
     let back = c.recycle.ensures in
-    (∣ s ∣₁, (omega (arith, e.long.0, ap long tree_is, t.short), (omega (arith, count_of rest s, ap (λ ps. length (pieces_of ps)) after, c.requires.few), (λ some. omega (arith, t.ample some, e.stock, back.len, items_are), (omega (arith, t.room, e.stock, e.capacity, back.len, back.capacity, items_are), tt)))))
+    record { standing = ∣ s ∣₁; short = omega (arith, e.long.0, ap long tree_is, t.short); few = omega (arith, count_of rest s, ap (λ ps. length (pieces_of ps)) after, c.requires.few); ample = λ some. omega (arith, t.ample some, e.stock, back.len, items_are); room = omega (arith, t.room, e.stock, e.capacity, back.len, back.capacity, items_are) }

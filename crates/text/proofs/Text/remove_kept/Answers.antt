@@ -9,8 +9,8 @@ use Rattle.text.specs.Texts.{text_places}
 use Rattle.text.proofs.Edited.{carried, count_of, some_pieces}
 use Rattle.text.proofs.Text.remove_kept.Goals as goal
 
-pub take-out-rest-requires : goal.take-out-rest-requires
-take-out-rest-requires g c =
+pub take_out-rest-requires : goal.take_out-rest-requires
+take_out-rest-requires g c =
     let t = c.args.self.now in
     let s = untruncated t.standing in
     let tree_is = c.replace-tree.ensures.value in
@@ -25,12 +25,12 @@ take-out-rest-requires g c =
       room = omega (arith, ap (λ u. length (items u)) tree_is, t.room);
     }
 
-pub keep-runs-requires : goal.keep-runs-requires
-keep-runs-requires g c =
+pub keep_runs-requires : goal.keep_runs-requires
+keep_runs-requires g c =
     let t = c.args.self.now in
-    let e = c.take-out-rest.ensures in
+    let e = c.take_out-rest.ensures in
     let tree_is = c.replace-tree.ensures.value in
-    let part = c.take-out-rest.result.1 in
+    let part = c.take_out-rest.result.1 in
     let count = count_of part e.standing.1 in
     let spelled : places part ≡ take c.args.count (drop c.args.offset (text_places t)) =
     e.part ∙ ap (λ u. take c.args.count (drop c.args.offset (places u))) tree_is in
@@ -39,30 +39,30 @@ keep-runs-requires g c =
       cells = omega (arith, c.requires.room, count, ap (λ ps. length (pieces_of ps)) spelled);
     }
 
-pub invariant-of-self : goal.invariant-of-self
-invariant-of-self g c =
+pub invariant_of-self : goal.invariant_of-self
+invariant_of-self g c =
     let t = c.args.self.now in
-    let e = c.take-out-rest.ensures in
+    let e = c.take_out-rest.ensures in
     let tree_is = c.replace-tree.ensures.value in
     let x = c.args.offset in
-    let rest = c.take-out-rest.result.0 in
+    let rest = c.take_out-rest.result.0 in
     let s : Standing (length t.original.now) (length (vec_items t.added)) rest =
     subst (λ xs. Standing (length t.original.now) (length xs) rest) c.deref.ensures.value e.standing.0 in
     let after : places rest ≡ take x (text_places t) ++ drop (x + c.args.count) (text_places t) =
     e.rest ∙ ap (λ u. take x (places u) ++ drop (x + c.args.count) (places u)) tree_is in
     let items_are = ap (λ u. length (items u)) tree_is in
-    let back = c.keep-runs.ensures in
-    (∣ s ∣₁, (omega (arith, e.long.0, ap long tree_is, t.short), (omega (arith, count_of rest s, ap (λ ps. length (pieces_of ps)) after, c.requires.few), (λ some. omega (arith, t.ample some, e.stock, back.stock, items_are), (omega (arith, t.room, e.stock, e.capacity, back.stock, back.capacity.0, items_are), tt)))))
+    let back = c.keep_runs.ensures in
+    record { standing = ∣ s ∣₁; short = omega (arith, e.long.0, ap long tree_is, t.short); few = omega (arith, count_of rest s, ap (λ ps. length (pieces_of ps)) after, c.requires.few); ample = λ some. omega (arith, t.ample some, e.stock, back.stock, items_are); room = omega (arith, t.room, e.stock, e.capacity, back.stock, back.capacity.0, items_are) }
 
 pub returns : goal.returns
 returns g c =
     let t = c.args.self.now in
-    let e = c.take-out-rest.ensures in
+    let e = c.take_out-rest.ensures in
     let tree_is = c.replace-tree.ensures.value in
     let x = c.args.offset in
     let n = c.args.count in
-    let part = c.take-out-rest.result.1 in
-    let back = c.keep-runs.ensures in
+    let part = c.take_out-rest.result.1 in
+    let back = c.keep_runs.ensures in
     let kept = longest part e.standing.1.weighed e.standing.1.apart in
     let spelled : places part ≡ take n (drop x (text_places t)) = e.part ∙ ap (λ u. take n (drop x (places u))) tree_is in
     record {

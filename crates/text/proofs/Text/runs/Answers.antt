@@ -2,8 +2,8 @@ use Rattle.std.proofs.Common.{arith}
 use Rattle.text.proofs.Standings.{long_fits, places_long, standing_of}
 use Rattle.text.proofs.Text.runs.Goals as goal
 
-pub runs-in-requires : goal.runs-in-requires
-runs-in-requires g c =
+pub runs_in-requires : goal.runs_in-requires
+runs_in-requires g c =
     let t = c.args.self.now in
     record {
       weighed = (standing_of t).weighed;

@@ -3,15 +3,15 @@ use Rattle.pieces.proofs.Props.{untruncated}
 use Rattle.text.proofs.Sourced.{cut_back, faithful_less, same_written, standing_cut}
 use Rattle.text.proofs.Text.take_back.Goals as goal
 
-pub invariant-of-self : goal.invariant-of-self
-invariant-of-self g c =
+pub invariant_of-self : goal.invariant_of-self
+invariant_of-self g c =
     let self = c.args.self.now in
     let before = vec_items self.added in
     let after = vec_items c.truncate.new.self in
     let count = vec_len self.added - c.args.count in
     let left : after ≡ take count before = c.truncate.ensures.items ∙ ap (λ n. take (n - c.args.count) before) c.len.ensures in
     let stands = standing_cut self.original.now before after count self.tree left c.requires.unused (untruncated self.standing) in
-    (∣ stands ∣₁, (self.short, (self.few, (self.ample, (self.room, tt)))))
+    record { standing = ∣ stands ∣₁; short = self.short; few = self.few; ample = self.ample; room = self.room }
 
 pub returns : goal.returns
 returns g c =
