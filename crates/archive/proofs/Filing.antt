@@ -1,5 +1,5 @@
 -- Records newest first, where one more is filed at the end of the list. Assumes nothing.
-use Rattle.std.proofs.Common.{◌≡◌, ℕ, suc, ◌+◌, ◌-◌, ◌<◌, ◌≤◌, List, [], ◌∷◌, ◌++◌, reverse, length, take, drop, Some, Option, sym, refl, ap, ◌∙◌, subst, arith}
+use Rattle.std.proofs.Common.{◌≡◌, ℕ, suc, ◌+◌, ◌-◌, ◌<◌, ◌≤◌, List, [], ◌∷◌, ◌++◌, reverse, length, take, drop, Some, Option, sym, ap, ◌∙◌, subst, arith}
 use Rattle.std.proofs.lemmas.List.{length-drop, length-reverse, length-take, reverse-append, take-append-drop, take_at, take_rest}
 use Rattle.std.specs.Option.{option_to_list}
 use Rattle.archive.specs.declared.types.Chapter.{Chapter}

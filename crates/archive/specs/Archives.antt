@@ -1,8 +1,7 @@
 -- What an archive stands for. Assumes nothing.
-use Rattle.std.specs.Prelude.{◌≡◌, ℕ, ◌-◌, List, reverse, length, take, drop, vec_items, vec_len, vec_capacity}
+use Rattle.std.specs.Prelude.{◌≡◌, ℕ, ◌-◌, List, reverse, take, drop, vec_items, vec_len, vec_capacity}
 use Rattle.archive.specs.Volumes.{Volume, links, volumes}
 use Rattle.archive.specs.declared.Archive.{Archive}
-use Rattle.archive.specs.declared.types.Chapter.{Chapter}
 use Rattle.archive.specs.declared.types.Entry.{Entry}
 
 module _ (a : Archive) where

@@ -1,4 +1,6 @@
 // The archive of a document: the records of its versions and of their steps.
+#![tactic(auto)]
+
 ghost use Rattle.std.specs.Prelude.{◌≤◌, reverse, vec_len};
 ghost use Rattle.archive.specs.Volumes.{Filed, Stored};
 

@@ -1,4 +1,6 @@
 // A text with its marks: steps made, and taken back.
+#![tactic(auto)]
+
 ghost use Rattle.marks.specs.Bounds.{Inside};
 ghost use Rattle.marks.specs.Tables.{marks_of};
 ghost use Rattle.text.specs.Texts.{text_places};

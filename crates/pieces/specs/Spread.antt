@@ -1,5 +1,5 @@
 -- What the items of a tree of pieces spell: an item stands for `length` places from its first one on. Assumes nothing.
-use Rattle.std.specs.Prelude.{◌≡◌, ℕ, ◌+◌, ◌^◌, ◌<◌, ◌≤◌, Bool, false, cond, ◌&&◌, List, [], ◌∷◌, ◌++◌, map, ◌==◌}
+use Rattle.std.specs.Prelude.{◌≡◌, ℕ, ◌+◌, ◌<◌, ◌≤◌, Bool, false, cond, ◌&&◌, List, [], ◌∷◌, ◌++◌, ◌==◌}
 use Rattle.ledger.specs.Places.{stretch, same_source, piece}
 use Rattle.ledger.specs.declared.words.Piece.{Piece}
 use Rattle.ledger.specs.declared.words.Place.{Place}
@@ -7,7 +7,7 @@ use Rattle.ledger.specs.declared.words.Source.{Source}
 use Rattle.ledger.specs.declared.words.Source.TheVariants.{Original, Added}
 use Rattle.nodes.specs.declared.types.Item.{Item}
 use Rattle.nodes.specs.declared.types.Tree.{Tree}
-use Rattle.nodes.specs.Trees.{items, long, Balanced, Weighed}
+use Rattle.nodes.specs.Trees.{items, Balanced, Weighed}
 
 -- the places of some pieces, one after the other
 abbrev pub spelled : List Piece → List Place

@@ -1,5 +1,5 @@
 -- Parts of a tree of pieces, and their totals. Assumes nothing.
-use Rattle.std.proofs.Common.{◌≡◌, ℕ, zero, suc, ◌+◌, ◌-◌, ◌≤◌, min, Bool, List, [], ◌∷◌, ◌++◌, length, take, drop, Box, sym, refl, ap, ◌∙◌, subst, append_assoc, arith, length-append, length-drop, length-take, take_all, take-take, drop-drop, take-add}
+use Rattle.std.proofs.Common.{◌≡◌, ℕ, zero, suc, ◌+◌, ◌-◌, ◌≤◌, min, Bool, List, [], ◌∷◌, ◌++◌, length, take, drop, Box, sym, refl, ap, ◌∙◌, subst, arith, length-append, length-drop, take_all, take-take, drop-drop}
 use native.Mathlib.Nat.{zero-min, suc-min-suc}
 use lib.Seq.{take-nil, drop-nil}
 use Rattle.std.proofs.lemmas.List.{drop-take}
@@ -8,8 +8,6 @@ use Rattle.measure.specs.Totals.{Monoid, total}
 use Rattle.measure.proofs.Totals.{total_append}
 use Rattle.ledger.specs.Places.{elements_at, source_list, stretch}
 use Rattle.ledger.specs.declared.words.Place.{Place}
-use Rattle.ledger.specs.declared.words.Source.{Source}
-use Rattle.ledger.specs.declared.words.Source.TheVariants.{Original, Added}
 use Rattle.nodes.specs.declared.types.Item.{Item}
 use Rattle.nodes.specs.declared.types.Node.{Node}
 use Rattle.nodes.specs.declared.types.Tree.{Tree}

@@ -1,11 +1,10 @@
 -- Places and elements at an offset inside an item. Assumes nothing.
-use Rattle.std.proofs.Common.{◌≡◌, ℕ, zero, suc, ◌+◌, ◌-◌, ◌<◌, ◌≤◌, List, [], ◌∷◌, ◌++◌, length, get_or, take, drop, sym, refl, ap, ◌∙◌, subst, append_assoc, arith, length-append, length-drop, length-take, take-add}
+use Rattle.std.proofs.Common.{◌≡◌, ℕ, zero, suc, ◌+◌, ◌-◌, ◌<◌, ◌≤◌, List, [], ◌∷◌, ◌++◌, length, get_or, take, drop, sym, refl, ap, ◌∙◌, subst, arith, length-append}
 use lib.Seq.{take-append-add, drop-append-add}
-use Rattle.std.proofs.lemmas.List.{drop-drop, drop_more, get_or-append-add, get_or_append_left}
-use Rattle.ledger.specs.Places.{elements_at, place, source_list, stretch}
+use Rattle.std.proofs.lemmas.List.{drop_more, get_or-append-add, get_or_append_left}
+use Rattle.ledger.specs.Places.{elements_at, place, stretch}
 use Rattle.ledger.specs.declared.words.Place.{Place}
 use Rattle.ledger.specs.declared.words.Source.{Source}
-use Rattle.ledger.specs.declared.words.Source.TheVariants.{Original, Added}
 use Rattle.nodes.specs.declared.types.Item.{Item}
 use Rattle.nodes.specs.declared.types.Tree.{Tree}
 use Rattle.nodes.specs.Trees.{items}

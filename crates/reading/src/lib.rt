@@ -1,4 +1,6 @@
 // Questions to a tree of pieces: places and elements by their offsets, numbers of pieces, lines, and totals of parts.
+#![tactic(auto)]
+
 mod counts;
 mod lines;
 mod totals;

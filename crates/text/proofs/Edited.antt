@@ -1,17 +1,16 @@
 -- What a text's type says of its tree, before a change and after it. Assumes nothing.
-use Rattle.std.proofs.Common.{◌≡◌, ℕ, suc, ◌+◌, ◌<◌, ◌≤◌, Bool, true, false, cond, ◌&&◌, List, [], ◌∷◌, ◌++◌, map, length, take, drop, sym, refl, ap, ◌∙◌, subst, arith, length-append, take-append-drop}
+use Rattle.std.proofs.Common.{◌≡◌, ℕ, ◌+◌, ◌<◌, ◌≤◌, List, [], ◌∷◌, ◌++◌, length, take, drop, sym, ap, subst, arith, length-append, take-append-drop}
 use Rattle.std.specs.List.{AllByRecursion as All}
 use Rattle.std.proofs.lemmas.List.{length-take, length-drop}
-use Rattle.ledger.specs.Places.{before_pieces, elements_at, pieces_of, source_list}
+use Rattle.ledger.specs.Places.{elements_at, pieces_of, source_list}
 use Rattle.ledger.specs.declared.words.Piece.{Piece}
 use Rattle.ledger.specs.declared.words.Place.{Place}
 use Rattle.nodes.specs.declared.types.Tree.{Tree}
-use Rattle.nodes.specs.Trees.{items, long}
-use Rattle.pieces.specs.Spread.{places, size_of, spelled, AllFit, Standing}
+use Rattle.nodes.specs.Trees.{items}
+use Rattle.pieces.specs.Spread.{places, spelled, AllFit, Standing}
 use Rattle.pieces.proofs.Elements.{source_long}
 use Rattle.pieces.proofs.Props.{untruncated}
-use Rattle.reading.proofs.Changes.{long_places}
-use Rattle.reading.proofs.Counting.{Begins, begins, count_cut, count_joint}
+use Rattle.reading.proofs.Counting.{begins, count_cut, count_joint}
 use Rattle.reading.proofs.Longest.{Kept, all_some, count_items, fit_pieces}
 
 -- a standing tree, and an added source, under other names

@@ -1,4 +1,6 @@
 // A text: its two sources, and the tree of its pieces.
+#![tactic(auto)]
+
 ghost use Rattle.std.specs.Prelude.{◌+◌, ◌^◌, ◌<◌, ◌≤◌, length, vec_len, vec_capacity};
 ghost use Rattle.nodes.specs.Trees.{items, long};
 ghost use Rattle.pieces.specs.Spread.{Standing};

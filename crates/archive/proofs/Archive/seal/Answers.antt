@@ -1,4 +1,4 @@
-use Rattle.std.proofs.Common.{◌≡◌, ◌-◌, ◌≤◌, [], ◌∷◌, reverse, take, drop, None, refl, ap, ◌∙◌, arith}
+use Rattle.std.proofs.Common.{◌≡◌, ◌-◌, ◌∷◌, reverse, take, drop, None, refl, ap, ◌∙◌, arith}
 use Rattle.archive.specs.declared.types.Chapter.{Chapter}
 use Rattle.archive.specs.Volumes.{volume, volumes}
 use Rattle.archive.proofs.Filing.{filed_more, links_more, volumes_more}

@@ -1,6 +1,6 @@
 use Rattle.std.proofs.Common.{length, refl, ap, ◌∙◌, arith}
 use Rattle.measure.specs.Totals.{total}
-use Rattle.pieces.specs.Faithful.{count_breaks, source_part}
+use Rattle.pieces.specs.Faithful.{count_breaks}
 use Rattle.pieces.proofs.SourceParts.{part_few}
 use Rattle.pieces.proofs.parts.measure_piece.Goals as goal
 

@@ -1,6 +1,6 @@
 use Rattle.std.proofs.Common.{◌≡◌, ◌+◌, ◌∷◌, ◌++◌, length, vec_len, box_value, sym, refl, ap, ◌∙◌, subst, arith, length-append}
 use Rattle.nodes.specs.Trees.{items, Bare}
-use Rattle.pieces.specs.Spread.{merged, touches}
+use Rattle.pieces.specs.Spread.{merged}
 use Rattle.pieces.proofs.Sewn.{merged_is, sewn_apart, sewn_touching, touch_is}
 use Rattle.pieces.proofs.sewing.join_ends.Goals as goal
 

@@ -1,4 +1,4 @@
-use Rattle.std.proofs.Common.{◌≡◌, ◌+◌, [], ◌∷◌, ◌++◌, length, vec_len, box_value, sym, refl, ap, ◌∙◌, arith, length-append}
+use Rattle.std.proofs.Common.{◌≡◌, ◌+◌, [], ◌∷◌, length, vec_len, box_value, sym, refl, ap, ◌∙◌, arith, length-append}
 use Rattle.nodes.specs.Trees.{items, long}
 use Rattle.piece_tree.proofs.Ends.{none}
 use Rattle.pieces.specs.Spread.{sewn}

@@ -1,4 +1,4 @@
-use Rattle.std.proofs.Common.{◌≡◌, ◌+◌, ◌≤◌, ◌++◌, length, get_or, sym, refl, ap, ◌∙◌, subst, append-nil, arith, take_all}
+use Rattle.std.proofs.Common.{◌+◌, ◌≤◌, ◌++◌, length, get_or, sym, refl, ap, ◌∙◌, subst, append-nil, arith, take_all}
 use Rattle.ledger.specs.declared.words.Place.{Place}
 use Rattle.pieces.specs.Spread.{places, size_of, spelled}
 use Rattle.splicing.proofs.RunLists.{between, blank, fits_at, length_more, run_added, spelled_few}

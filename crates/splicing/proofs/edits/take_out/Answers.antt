@@ -1,4 +1,4 @@
-use Rattle.std.proofs.Common.{◌++◌, length, take, drop, ap, ◌∙◌, arith, drop-drop}
+use Rattle.std.proofs.Common.{length, take, drop, ap, ◌∙◌, arith, drop-drop}
 use Rattle.pieces.specs.Spread.{places}
 use Rattle.splicing.proofs.RunLists.{both_parts}
 use Rattle.pieces.proofs.Sewn.{faithful_sewn, places_sewn, standing_sewn}

@@ -1,4 +1,4 @@
-use Rattle.std.proofs.Common.{◌≡◌, ◌<◌, ◌++◌, length, take, drop, vec_items, sym, ap, ◌∙◌, subst, arith, length-append}
+use Rattle.std.proofs.Common.{◌≡◌, ◌++◌, length, take, drop, vec_items, sym, ap, ◌∙◌, subst, arith, length-append}
 use Rattle.ledger.specs.Places.{pieces_of, stretch}
 use Rattle.ledger.specs.declared.words.Source.TheVariants.{Added}
 use Rattle.nodes.specs.Trees.{items, long}

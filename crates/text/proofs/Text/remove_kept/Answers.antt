@@ -1,7 +1,7 @@
-use Rattle.std.proofs.Common.{◌≡◌, ◌+◌, ◌++◌, map, length, take, drop, vec_items, sym, ap, ◌∙◌, subst, arith, rules}
+use Rattle.std.proofs.Common.{◌≡◌, ◌+◌, ◌++◌, length, take, drop, vec_items, sym, ap, ◌∙◌, subst, arith, rules}
 use Rattle.ledger.specs.Places.{pieces_of}
 use Rattle.nodes.specs.Trees.{items, long}
-use Rattle.pieces.specs.Spread.{piece_of, places, Standing}
+use Rattle.pieces.specs.Spread.{places, Standing}
 use Rattle.pieces.proofs.Props.{untruncated}
 use Rattle.reading.proofs.Longest.{longest}
 use Rattle.reading.proofs.Changes.{long_places}
