@@ -13,11 +13,11 @@ pub record Parts {P T : Type 0} (tree left : Tree P T) (item : Item P T) (right 
   pub right_weighed : Weighed right
 
 pub parts : {P T : Type 0} → {tree left right : Tree P T} {item : Item P T} {side : Box (Node P T) Global} → tree ≡ Place side → left ≡ side.value.left → item ≡ side.value.item → right ≡ side.value.right → Weighed tree → Parts tree left item right
-parts {tree = tree} {left = left} {right = right} {item = item} {side = side} is on-left at on-right w =
-    let open-w = subst Weighed is w in
+parts {tree = tree} {left = left} {right = right} {item = item} {side = side} is on_left at on_right w =
+    let open_w = subst Weighed is w in
     record {
-      length_is = omega (arith, ap long is, open-w.0, ap long on-left, ap long on-right, ap (λ i. i.length) at);
-      fair = subst Fair (sym at) open-w.3;
-      left_weighed = subst Weighed (sym on-left) open-w.4;
-      right_weighed = subst Weighed (sym on-right) open-w.5;
+      length_is = omega (arith, ap long is, open_w.0, ap long on_left, ap long on_right, ap (λ i. i.length) at);
+      fair = subst Fair (sym at) open_w.3;
+      left_weighed = subst Weighed (sym on_left) open_w.4;
+      right_weighed = subst Weighed (sym on_right) open_w.5;
     }

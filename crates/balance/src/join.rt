@@ -1,5 +1,5 @@
 // Joining: two trees and a place between them become one tree, by black heights.
-ghost use Rattle.std.specs.Prelude.{◌≡◌, ℕ, ◌+◌, ◌^◌, ◌<◌, ◌≤◌, true, false, cond, List, ◌∷◌, ◌++◌, box_value};
+ghost use Rattle.std.specs.Prelude.{◌≡◌, ℕ, ◌+◌, ◌^◌, ◌<◌, ◌≤◌, true, false, cond, List, ◌∷◌, ◌++◌};
 ghost use Rattle.nodes.specs.Trees.{items, long, red, reds_left, reds_right, blacks, Balanced, Bare, Fair, Legal, LeansLeft, LeansRight, Summed, Weighed};
 
 use measure::Total;
@@ -28,16 +28,16 @@ fn rotate_left<P: Copy, T: Total>(
     right: Tree<P, T>,
 ) -> Tree<P, T>
     requires bare { Bare place.value }
-    requires fair { Fair (box_value place).item }
+    requires fair { Fair place.value.item }
     requires left_weighed { Weighed left }
     requires right_weighed { Weighed right }
-    requires fits { long left + (box_value place).item.length + long right < 2 ^ 64 }
+    requires fits { long left + place.value.item.length + long right < 2 ^ 64 }
     requires left_legal { Legal left }
     requires right_leans { LeansRight right }
     requires level { blacks left ≡ blacks right }
     requires reds { reds_right right ≡ true }
-    ensures items { items result ≡ items left ++ (box_value place).item ∷ items right }
-    ensures long { long result ≡ long left + (box_value place).item.length + long right }
+    ensures items { items result ≡ items left ++ place.value.item ∷ items right }
+    ensures long { long result ≡ long left + place.value.item.length + long right }
     ensures weighed { Weighed result }
     ensures summed { Summed T.neutral T.joined left → Summed T.neutral T.joined right → Summed T.neutral T.joined result }
     ensures blacks { blacks result ≡ 1 + blacks left }
@@ -60,15 +60,15 @@ fn balance_right<P: Copy, T: Total>(
     right: Tree<P, T>,
 ) -> Tree<P, T>
     requires bare { Bare place.value }
-    requires fair { Fair (box_value place).item }
+    requires fair { Fair place.value.item }
     requires left_weighed { Weighed left }
     requires right_weighed { Weighed right }
-    requires fits { long left + (box_value place).item.length + long right < 2 ^ 64 }
+    requires fits { long left + place.value.item.length + long right < 2 ^ 64 }
     requires left_legal { Legal left }
     requires right_leans { LeansRight right }
     requires level { blacks left ≡ blacks right }
-    ensures items { items result ≡ items left ++ (box_value place).item ∷ items right }
-    ensures long { long result ≡ long left + (box_value place).item.length + long right }
+    ensures items { items result ≡ items left ++ place.value.item ∷ items right }
+    ensures long { long result ≡ long left + place.value.item.length + long right }
     ensures weighed { Weighed result }
     ensures summed { Summed T.neutral T.joined left → Summed T.neutral T.joined right → Summed T.neutral T.joined result }
     ensures blacks { blacks result ≡ 1 + blacks left }
@@ -91,18 +91,18 @@ pub fn join_right<P: Copy, T: Total>(
     low: usize,
 ) -> Tree<P, T>
     requires bare { Bare place.value }
-    requires fair { Fair (box_value place).item }
+    requires fair { Fair place.value.item }
     requires left_weighed { Weighed left }
     requires right_weighed { Weighed right }
-    requires fits { long left + (box_value place).item.length + long right < 2 ^ 64 }
+    requires fits { long left + place.value.item.length + long right < 2 ^ 64 }
     requires left_legal { Legal left }
     requires right_legal { Legal right }
     requires right_black { red right ≡ false }
     requires left_tall { tall ≡ blacks left }
     requires right_low { low ≡ blacks right }
     requires falls { low ≤ tall }
-    ensures items { items result ≡ items left ++ (box_value place).item ∷ items right }
-    ensures long { long result ≡ long left + (box_value place).item.length + long right }
+    ensures items { items result ≡ items left ++ place.value.item ∷ items right }
+    ensures long { long result ≡ long left + place.value.item.length + long right }
     ensures weighed { Weighed result }
     ensures summed { Summed T.neutral T.joined left → Summed T.neutral T.joined right → Summed T.neutral T.joined result }
     ensures blacks { blacks result ≡ blacks left }
@@ -152,16 +152,16 @@ fn rotate_right<P: Copy, T: Total>(
     right: Tree<P, T>,
 ) -> Tree<P, T>
     requires bare { Bare place.value }
-    requires fair { Fair (box_value place).item }
+    requires fair { Fair place.value.item }
     requires left_weighed { Weighed left }
     requires right_weighed { Weighed right }
-    requires fits { long left + (box_value place).item.length + long right < 2 ^ 64 }
+    requires fits { long left + place.value.item.length + long right < 2 ^ 64 }
     requires right_legal { Legal right }
     requires left_leans { LeansLeft left }
     requires level { blacks left ≡ blacks right }
     requires reds { reds_left left ≡ true }
-    ensures items { items result ≡ items left ++ (box_value place).item ∷ items right }
-    ensures long { long result ≡ long left + (box_value place).item.length + long right }
+    ensures items { items result ≡ items left ++ place.value.item ∷ items right }
+    ensures long { long result ≡ long left + place.value.item.length + long right }
     ensures weighed { Weighed result }
     ensures summed { Summed T.neutral T.joined left → Summed T.neutral T.joined right → Summed T.neutral T.joined result }
     ensures blacks { blacks result ≡ 1 + blacks right }
@@ -184,15 +184,15 @@ fn balance_left<P: Copy, T: Total>(
     right: Tree<P, T>,
 ) -> Tree<P, T>
     requires bare { Bare place.value }
-    requires fair { Fair (box_value place).item }
+    requires fair { Fair place.value.item }
     requires left_weighed { Weighed left }
     requires right_weighed { Weighed right }
-    requires fits { long left + (box_value place).item.length + long right < 2 ^ 64 }
+    requires fits { long left + place.value.item.length + long right < 2 ^ 64 }
     requires right_legal { Legal right }
     requires left_leans { LeansLeft left }
     requires level { blacks left ≡ blacks right }
-    ensures items { items result ≡ items left ++ (box_value place).item ∷ items right }
-    ensures long { long result ≡ long left + (box_value place).item.length + long right }
+    ensures items { items result ≡ items left ++ place.value.item ∷ items right }
+    ensures long { long result ≡ long left + place.value.item.length + long right }
     ensures weighed { Weighed result }
     ensures summed { Summed T.neutral T.joined left → Summed T.neutral T.joined right → Summed T.neutral T.joined result }
     ensures blacks { blacks result ≡ 1 + blacks right }
@@ -215,18 +215,18 @@ pub fn join_left<P: Copy, T: Total>(
     tall: usize,
 ) -> Tree<P, T>
     requires bare { Bare place.value }
-    requires fair { Fair (box_value place).item }
+    requires fair { Fair place.value.item }
     requires left_weighed { Weighed left }
     requires right_weighed { Weighed right }
-    requires fits { long left + (box_value place).item.length + long right < 2 ^ 64 }
+    requires fits { long left + place.value.item.length + long right < 2 ^ 64 }
     requires right_legal { Legal right }
     requires left_legal { Legal left }
     requires left_black { red left ≡ false }
     requires left_low { low ≡ blacks left }
     requires right_tall { tall ≡ blacks right }
     requires rises { low ≤ tall }
-    ensures items { items result ≡ items left ++ (box_value place).item ∷ items right }
-    ensures long { long result ≡ long left + (box_value place).item.length + long right }
+    ensures items { items result ≡ items left ++ place.value.item ∷ items right }
+    ensures long { long result ≡ long left + place.value.item.length + long right }
     ensures weighed { Weighed result }
     ensures summed { Summed T.neutral T.joined left → Summed T.neutral T.joined right → Summed T.neutral T.joined result }
     ensures blacks { blacks result ≡ blacks right }

@@ -19,7 +19,7 @@ fn restore<'o, E: Element, T: Measure<E>>(text: &mut Text<'o, E, T>, step: Step,
     requires few { length (pieces_of (taken_back step runs.now (text_places text.old))) ≤ text.old.limit }
     ensures places { text_places text.new ≡ taken_back step runs.now (text_places text.old) }
     ensures kept { Kept text.old text.new }
-    ensures measured { Measured E.Element.breaks T.Total.neutral T.Measure.value T.Total.joined text.old → Measured E.Element.breaks T.Total.neutral T.Measure.value T.Total.joined text.new }
+    ensures measured { Measured E.breaks T.neutral T.value T.joined text.old → Measured E.breaks T.neutral T.value T.joined text.new }
 {
     match step {
         Step::Insert {
@@ -50,7 +50,7 @@ impl<'o, E: Element, T: Measure<E>> Sheet<'o, E, T> {
         requires doable { Doable step self.old }
         ensures content { content_of self.new ≡ apply step (content_of self.old) }
         ensures kept { Kept self.old.text self.new.text }
-        ensures measured { Measured E.Element.breaks T.Total.neutral T.Measure.value T.Total.joined self.old.text → Measured E.Element.breaks T.Total.neutral T.Measure.value T.Total.joined self.new.text }
+        ensures measured { Measured E.breaks T.neutral T.value T.joined self.old.text → Measured E.breaks T.neutral T.value T.joined self.new.text }
     {
         match step {
             Step::Insert {
@@ -78,7 +78,7 @@ impl<'o, E: Element, T: Measure<E>> Sheet<'o, E, T> {
         ensures runs { runs.new.items ≡ runs.old.items ++ kept_runs (Delete offset count) (content_of self.old) }
         ensures capacity { vec_capacity runs.new ≡ vec_capacity runs.old }
         ensures kept { Kept self.old.text self.new.text }
-        ensures measured { Measured E.Element.breaks T.Total.neutral T.Measure.value T.Total.joined self.old.text → Measured E.Element.breaks T.Total.neutral T.Measure.value T.Total.joined self.new.text }
+        ensures measured { Measured E.breaks T.neutral T.value T.joined self.old.text → Measured E.breaks T.neutral T.value T.joined self.new.text }
     {
         self.text.remove_kept(offset, count, runs);
         self.marks.pull(offset, count);
@@ -89,7 +89,7 @@ impl<'o, E: Element, T: Measure<E>> Sheet<'o, E, T> {
         requires undoable { Undoable step marks runs.now self.old }
         ensures content { (before : Content) → MadeOf step marks runs.now self.old before → content_of self.new ≡ before }
         ensures kept { Kept self.old.text self.new.text }
-        ensures measured { Measured E.Element.breaks T.Total.neutral T.Measure.value T.Total.joined self.old.text → Measured E.Element.breaks T.Total.neutral T.Measure.value T.Total.joined self.new.text }
+        ensures measured { Measured E.breaks T.neutral T.value T.joined self.old.text → Measured E.breaks T.neutral T.value T.joined self.new.text }
     {
         restore(&mut self.text, step, runs);
         self.marks = marks;

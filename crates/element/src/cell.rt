@@ -12,7 +12,7 @@ pub struct Cell {
 }
 
 impl Element for Cell {
-    ghost breaks = { λ c. (c.shown == 10) };
+    ghost breaks = { λ c. c.shown == 10 };
 
     ghost shown = { λ c. c.shown };
 

@@ -54,7 +54,7 @@ const ONLY_HAND: u8 = 0;
 
 // A byte shows itself, and has no hand but 0.
 impl Element for u8 {
-    ghost breaks = { λ b. (b == 10) };
+    ghost breaks = { λ b. b == 10 };
 
     ghost shown = { λ b. b };
 

@@ -29,8 +29,8 @@ cut_all front more n whole =
 module _ {E : Type 0} (breaks : E → Bool) where
   -- a step is taken back, with what it added
   unstep : (l : Ledger E) (step : Step) (new : List E) → added_by step ≡ length new → not (is_open l.group) ≡ false → next breaks (with_step l step new) retracting ≡ l
-  unstep l step new adds open-now =
-      λ i. with_group l (cut_all l.added new (added_by step) adds i) (sym (opened l.group (not-false _ open-now)) i)
+  unstep l step new adds open_now =
+      λ i. with_group l (cut_all l.added new (added_by step) adds i) (sym (opened l.group (not-false _ open_now)) i)
 
   -- what a question leaves, denied or not
   asked : (l : Ledger E) (d : Option Denial) → unless_denied d l l ≡ l
@@ -81,7 +81,7 @@ module _ {E : Type 0} (breaks : E → Bool) where
     stays more steps adds = record { more = more; steps = steps; adds = adds; is = refl }
 
     steps_on : (more : List E) (steps : List Step) → length more ≡ all_added steps → (step : Step) (new : List E) → added_by step ≡ length new → Grown (with_step (grown more steps) step new)
-    steps_on more steps adds step new adds-new = record {
+    steps_on more steps adds step new adds_new = record {
       more = more ++ new;
       steps = step ∷ steps;
       adds = omega (arith, length-append more new);

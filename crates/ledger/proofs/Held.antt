@@ -166,8 +166,8 @@ module _ {E : Type 0} (spare : ℕ) (l : Ledger E) (h : Held spare l) where
         → added_used l + length new ≤ l.capacities.added
         → runs_used l + kept_by step (content l) ≤ l.capacities.runs
         → Keeps spare l call (with_step l step new)
-    stepped step new open-now fit starts pieces by s a r =
-        let one = ap to_come (opened l.group open-now) in
+    stepped step new open_now fit starts pieces by s a r =
+        let one = ap to_come (opened l.group open_now) in
         let long = length-append l.added new in
         let now = h.group in
         regrouped (l.added ++ new) (Some (step ∷ steps_open l.group))

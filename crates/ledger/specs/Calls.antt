@@ -106,7 +106,7 @@ module _ {E : Type 0} (breaks : E → Bool) (l : Ledger E) where
   tests cancelling = []
   tests (inserting x new) =
       (not (is_open l.group), NoGroup)
-      ∷ ((length new == 0), Nothing)
+      ∷ (length new == 0, Nothing)
       ∷ (nat_lt text_size x, PastTheText)
       ∷ (nat_le l.capacities.steps (steps_used l), StepsFull)
       ∷ (nat_lt l.capacities.added (added_used l + length new), AddedFull)
@@ -114,7 +114,7 @@ module _ {E : Type 0} (breaks : E → Bool) (l : Ledger E) where
       ∷ []
   tests (deleting x n) =
       (not (is_open l.group), NoGroup)
-      ∷ ((n == 0), Nothing)
+      ∷ (n == 0, Nothing)
       ∷ (nat_lt text_size (x + n), PastTheText)
       ∷ (nat_le l.capacities.steps (steps_used l), StepsFull)
       ∷ (nat_lt l.capacities.runs (runs_used l + kept_by (Delete x n) (content l)), RunsFull)
@@ -133,7 +133,7 @@ module _ {E : Type 0} (breaks : E → Bool) (l : Ledger E) where
       ∷ (nat_le l.capacities.steps (steps_used l), StepsFull)
       ∷ []
   tests retracting = (not (is_open l.group), NoGroup) ∷ (has_no_step l.group, NoStep) ∷ []
-  tests undoing = (is_open l.group, GroupOpen) ∷ ((l.current == 0), AtVersionZero) ∷ []
+  tests undoing = (is_open l.group, GroupOpen) ∷ (l.current == 0, AtVersionZero) ∷ []
   tests redoing = (is_open l.group, GroupOpen) ∷ (not (is_some (favoured_child (version_at l.current l.versions))), NoChild) ∷ []
   tests (jumping k) = (is_open l.group, GroupOpen) ∷ (nat_le (length l.versions) k, NoVersion) ∷ []
   tests (asking q) = asking_tests q

@@ -2,7 +2,7 @@
 use Rattle.std.specs.Prelude.{◌≡◌, ℕ, suc, List, [], ◌∷◌, ◌++◌, map, length, Some, None, Option, nat_eq}
 use Rattle.measure.specs.Fingerprints.{no_bytes, one_byte, bytes_joined}
 use Rattle.measure.specs.Totals.{total as total_of}
-use Rattle.ledger.specs.Answers.{Answer, Shallow, answers, done, denied, number, element, mark as mark-is, line, total, version, depth_of}
+use Rattle.ledger.specs.Answers.{Answer, Shallow, answers, done, denied, number, element, mark as mark_is, line, total, version, depth_of}
 use Rattle.ledger.specs.Calls.{Call, Question, opening, closing, cancelling, inserting, deleting, setting, dropping, retracting, undoing, redoing, jumping, asking, text_length, element_at, mark_named, line_count, line_numbered, line_holding, part_total, piece_count, tree_depth, added_count, step_count, run_count, current_version, highest_version, parent_of, favoured_of, steps_of}
 use Rattle.ledger.specs.Ledgers.{begin}
 use Rattle.ledger.specs.Making.{Room, capacities_of, check}
@@ -84,11 +84,11 @@ cases =
     -- marks go with what is inserted by their gravity, and come back when a delete is retracted
     ∷ case copy ample
     (does opening ∷ does (setting a_mark 2 Right) ∷ does (setting b_mark 2 Left) ∷ does (inserting 2 X)
-    ∷ (asking (mark_named a_mark), mark-is (mark 3 Right)) ∷ (asking (mark_named b_mark), mark-is (mark 2 Left))
+    ∷ (asking (mark_named a_mark), mark_is (mark 3 Right)) ∷ (asking (mark_named b_mark), mark_is (mark 2 Left))
     ∷ does (deleting 1 2)
-    ∷ (asking (mark_named a_mark), mark-is (mark 1 Right)) ∷ (asking (mark_named b_mark), mark-is (mark 1 Left))
+    ∷ (asking (mark_named a_mark), mark_is (mark 1 Right)) ∷ (asking (mark_named b_mark), mark_is (mark 1 Left))
     ∷ does retracting
-    ∷ (asking (mark_named a_mark), mark-is (mark 3 Right)) ∷ (asking (mark_named b_mark), mark-is (mark 2 Left)) ∷ [])
+    ∷ (asking (mark_named a_mark), mark_is (mark 3 Right)) ∷ (asking (mark_named b_mark), mark_is (mark 2 Left)) ∷ [])
     -- lines count from 1, offsets from 0
     ∷ case copy ample
     ((asking (line_numbered 2), line 3 3) ∷ (asking (line_numbered 3), denied NoLine) ∷ (asking (element_at 6), denied PastTheText) ∷ [])
@@ -165,7 +165,7 @@ edges =
     ∷ leads (parent_of 0) None ∷ leads (parent_of 1) (Some 0) ∷ leads (parent_of 2) (Some 0) ∷ denies NoVersion (asking (parent_of 3))
     ∷ leads (favoured_of 0) (Some 2) ∷ leads (favoured_of 2) None ∷ denies NoVersion (asking (favoured_of 3))
     ∷ counts (steps_of 0) 0 ∷ counts (steps_of 1) 2 ∷ counts (steps_of 2) 1 ∷ denies NoVersion (asking (steps_of 3))
-    ∷ does (jumping 1) ∷ leads (favoured_of 0) (Some 1) ∷ counts text_length 7 ∷ (asking (mark_named a_mark), mark-is (mark 0 Left))
+    ∷ does (jumping 1) ∷ leads (favoured_of 0) (Some 1) ∷ counts text_length 7 ∷ (asking (mark_named a_mark), mark_is (mark 0 Left))
     ∷ does undoing ∷ denies MarkNotSet (asking (mark_named a_mark)) ∷ counts text_length 6 ∷ counts added_count 1 ∷ [])
     -- an empty group makes no version
     ∷ case copy ample (does opening ∷ does closing ∷ counts highest_version 0 ∷ does opening ∷ does cancelling ∷ counts highest_version 0 ∷ [])

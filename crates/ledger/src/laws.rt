@@ -21,20 +21,20 @@ pub fn worked_cases() -> usize
 // The laws of the rules, over any calls.
 pub fn rules_hold<E: Element, T: Measure<E>>() -> bool
     // a denied call changes nothing, and neither does a question
-    ensures unchanging { Unchanging E.Element.breaks }
+    ensures unchanging { Unchanging E.breaks }
     // retracting a step gives the ledger before it
-    ensures retracting { Retracting E.Element.breaks }
+    ensures retracting { Retracting E.breaks }
     // a cancelled group can be struck out of any list of calls: every call left gets the same answer
-    ensures striking { Striking E.Element.breaks (total T.Total.neutral T.Measure.value T.Total.joined) }
+    ensures striking { Striking E.breaks (total T.neutral T.value T.joined) }
     // with no group open, text and marks are those that stood when the current version was made; and so stand those of every
     // version, whichever is current
-    ensures standing { Stands E.Element.breaks }
+    ensures standing { Stands E.breaks }
     // every ledger that calls reach is legal: steps fit the texts they met, each text on a path is within its capacity, and no
     // count passes its own
-    ensures legal { AlwaysLegal E.Element.breaks }
+    ensures legal { AlwaysLegal E.breaks }
     // redo takes an undo back, and undo a redo
-    ensures redone { TakesBack E.Element.breaks undoing redoing }
-    ensures undone { TakesBack E.Element.breaks redoing undoing }
+    ensures redone { TakesBack E.breaks undoing redoing }
+    ensures undone { TakesBack E.breaks redoing undoing }
     ensures held { result ≡ true }
 {
     true

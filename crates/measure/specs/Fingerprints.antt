@@ -1,11 +1,12 @@
 -- Fingerprints, modulo 2^32. Assumes nothing.
 use Rattle.std.specs.Prelude.{ℕ, ◌+◌, ◌*◌, ◌%◌, ◌^◌}
-use Rattle.std.proofs.Common.{arith}
+use Rattle.std.proofs.Common.{lit<}
+use Rattle.std.proofs.lemmas.Nat.{mod_below}
 use Rattle.measure.specs.declared.types.Fingerprint.{Fingerprint}
 
 -- a power and a value, modulo 2^32
 abbrev pub fingerprint : ℕ → ℕ → Fingerprint
-fingerprint power value = record { power = power % 2 ^ 32; value = value % 2 ^ 32; modular = (omega arith, omega arith) }
+fingerprint power value = record { power = power % 2 ^ 32; value = value % 2 ^ 32; modular = (mod_below power (2 ^ 32) (lit< tt), mod_below value (2 ^ 32) (lit< tt)) }
 
 abbrev pub no_bytes : Fingerprint
 no_bytes = fingerprint 1 0

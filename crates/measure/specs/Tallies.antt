@@ -1,10 +1,11 @@
 -- Tallies: how many elements have a hand above 0, modulo 2^32. Assumes nothing.
 use Rattle.std.specs.Prelude.{ℕ, ◌+◌, ◌%◌, ◌^◌, cond, nat_lt}
-use Rattle.std.proofs.Common.{arith}
+use Rattle.std.proofs.Common.{lit<}
+use Rattle.std.proofs.lemmas.Nat.{mod_below}
 use Rattle.measure.specs.declared.types.Tally.{Tally}
 
 abbrev pub tally : ℕ → Tally
-tally count = record { count = count % 2 ^ 32; modular = omega arith }
+tally count = record { count = count % 2 ^ 32; modular = mod_below count (2 ^ 32) (lit< tt) }
 
 abbrev pub none_typed : Tally
 none_typed = tally 0

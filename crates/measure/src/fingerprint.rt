@@ -26,7 +26,7 @@ impl Total for Fingerprint {
 }
 
 impl<E: Element> Measure<E> for Fingerprint {
-    ghost value = { λ e. one_byte (E.Element.shown e) };
+    ghost value = { λ e. one_byte (E.shown e) };
 
     fn of(element: &E) -> Fingerprint {
         reduced(31, u64::from(element.shown_byte()) + 1)

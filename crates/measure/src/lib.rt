@@ -45,8 +45,8 @@ pub trait Measure<E>: Total {
 
 // The total of a part. Wherever the part is cut in two, it is also the join of the totals of both.
 pub fn fold<E, T: Measure<E>>(part: &[E]) -> T
-    ensures whole { result ≡ total T.Total.neutral T.Measure.value T.Total.joined part.now }
-    ensures cut { (front back : List E) → part.now ≡ front ++ back → result ≡ T.Total.joined (total T.Total.neutral T.Measure.value T.Total.joined front) (total T.Total.neutral T.Measure.value T.Total.joined back) }
+    ensures whole { result ≡ total T.neutral T.value T.joined part.now }
+    ensures cut { (front back : List E) → part.now ≡ front ++ back → result ≡ T.joined (total T.neutral T.value T.joined front) (total T.neutral T.value T.joined back) }
 {
     let mut sum = T::empty();
     for element in part {
@@ -57,7 +57,7 @@ pub fn fold<E, T: Measure<E>>(part: &[E]) -> T
 
 // The total of a part and of one element after it.
 fn extended<E, T: Measure<E>>(sum: T, element: &E) -> T
-    ensures { result ≡ T.Total.joined sum (T.Measure.value element.now) }
+    ensures { result ≡ T.joined sum (T.value element.now) }
 {
     sum.join(T::of(element))
 }

@@ -22,7 +22,7 @@ impl Total for Tally {
 }
 
 impl<E: Element> Measure<E> for Tally {
-    ghost value = { λ e. one_typed (E.Element.typist e) };
+    ghost value = { λ e. one_typed (E.typist e) };
 
     fn of(element: &E) -> Tally {
         let typed = if element.hand() > 0 { 1 } else { 0 };

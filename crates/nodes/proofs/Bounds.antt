@@ -28,6 +28,6 @@ low (Place' p Black left item right sums) w = let l = bound (red left) (low left
 -- below a place there are fewer black places in a row than elements
 pub low_place : {P T : Type 0} → {tree : Tree P T} {place : Box (Node P T) Global} → tree ≡ Place place → Weighed tree → blacks place.value.left < long tree
 low_place {place = place} is w =
-    let open-w = subst Weighed is w in
-    let l = bound (red place.value.left) (low place.value.left open-w.4) in
-    omega (arith, l, open-w.0, open-w.3, ap long is)
+    let open_w = subst Weighed is w in
+    let l = bound (red place.value.left) (low place.value.left open_w.4) in
+    omega (arith, l, open_w.0, open_w.3, ap long is)

@@ -52,22 +52,22 @@ reds_of_left (Place' p Red left item right sums) leans reds =
 reds_of_left (Place' p Black left item right sums) leans reds = absurd (false≢true reds)
 
 pub open_right : {P T : Type 0} → {tree inner outer : Tree P T} {side : Box (Node P T) Global} → tree ≡ Place side → inner ≡ side.value.left → outer ≡ side.value.right → LeansRight tree → reds_right tree ≡ true → Reds tree inner outer
-open_right {tree = tree} {inner = inner} {outer = outer} is on-left on-right leans reds =
-    let i : left_of tree ≡ inner = ap left_of is ∙ sym on-left in
-    let o : right_of tree ≡ outer = ap right_of is ∙ sym on-right in
+open_right {tree = tree} {inner = inner} {outer = outer} is on_left on_right leans reds =
+    let i : left_of tree ≡ inner = ap left_of is ∙ sym on_left in
+    let o : right_of tree ≡ outer = ap right_of is ∙ sym on_right in
     subst (λ t. Reds tree inner t) o (subst (λ t. Reds tree t (right_of tree)) i (reds_of_right tree leans reds))
 
 pub open_left : {P T : Type 0} → {tree inner outer : Tree P T} {side : Box (Node P T) Global} → tree ≡ Place side → outer ≡ side.value.left → inner ≡ side.value.right → LeansLeft tree → reds_left tree ≡ true → Reds tree inner outer
-open_left {tree = tree} {inner = inner} {outer = outer} is on-left on-right leans reds =
-    let o : left_of tree ≡ outer = ap left_of is ∙ sym on-left in
-    let i : right_of tree ≡ inner = ap right_of is ∙ sym on-right in
+open_left {tree = tree} {inner = inner} {outer = outer} is on_left on_right leans reds =
+    let o : left_of tree ≡ outer = ap left_of is ∙ sym on_left in
+    let i : right_of tree ≡ inner = ap right_of is ∙ sym on_right in
     subst (λ t. Reds tree inner t) o (subst (λ t. Reds tree t (left_of tree)) i (reds_of_left tree leans reds))
 
 -- the sides of a place whose tree is summed
 pub sides_summed : {P T : Type 0} → (neutral : T) (joined : T → T → T) {tree left right : Tree P T} {side : Box (Node P T) Global} → tree ≡ Place side → left ≡ side.value.left → right ≡ side.value.right → Summed neutral joined tree → Summed neutral joined left × Summed neutral joined right
-sides_summed neutral joined is on-left on-right summed =
+sides_summed neutral joined is on_left on_right summed =
     let s = subst (Summed neutral joined) is summed in
-    (subst (Summed neutral joined) (sym on-left) s.1, subst (Summed neutral joined) (sym on-right) s.2)
+    (subst (Summed neutral joined) (sym on_left) s.1, subst (Summed neutral joined) (sym on_right) s.2)
 
 -- how many places a tree has: what each recursion ends by
 abbrev pub spots : {P T : Type 0} → Tree P T → ℕ
@@ -76,6 +76,6 @@ spots (Place' p colour left item right sums) = spots left + spots right + 1
 
 -- the number of items at and below a place
 pub items_count : {P T : Type 0} → {tree left right : Tree P T} {side : Box (Node P T) Global} → tree ≡ Place side → left ≡ side.value.left → right ≡ side.value.right → length (items tree) ≡ length (items left) + 1 + length (items right)
-items_count {left = left} {right = right} {side = side} is on-left on-right =
+items_count {left = left} {right = right} {side = side} is on_left on_right =
     let cut = length-append (items side.value.left) (side.value.item ∷ items side.value.right) in
-    omega (arith, ap (λ t. length (items t)) is, cut, ap (λ t. length (items t)) on-left, ap (λ t. length (items t)) on-right)
+    omega (arith, ap (λ t. length (items t)) is, cut, ap (λ t. length (items t)) on_left, ap (λ t. length (items t)) on_right)

@@ -1,5 +1,5 @@
 // Single places: put together over two sides, taken apart, painted, and read.
-ghost use Rattle.std.specs.Prelude.{◌≡◌, ℕ, ◌+◌, ◌^◌, ◌<◌, ◌≤◌, true, false, List, ◌∷◌, ◌++◌, if◌then◌else◌, box_value};
+ghost use Rattle.std.specs.Prelude.{◌≡◌, ℕ, ◌+◌, ◌^◌, ◌<◌, ◌≤◌, true, false, List, ◌∷◌, ◌++◌, if◌then◌else◌};
 ghost use Rattle.nodes.specs.Trees.{items, long, broken, placed, whole, red, ruddy, weight, blacks, Bare, Calm, Fair, Legal, LeansLeft, LeansRight, Summed, Weighed};
 
 use crate::types::{Colour, Node, Sums, Tree};
@@ -44,12 +44,12 @@ pub fn link<P: Copy, T: Total>(
     right: Tree<P, T>,
 ) -> Tree<P, T>
     requires bare { Bare place.value }
-    requires fair { Fair (box_value place).item }
+    requires fair { Fair place.value.item }
     requires left_weighed { Weighed left }
     requires right_weighed { Weighed right }
-    requires fits { long left + (box_value place).item.length + long right < 2 ^ 64 }
-    ensures items { items result ≡ items left ++ (box_value place).item ∷ items right }
-    ensures long { long result ≡ long left + (box_value place).item.length + long right }
+    requires fits { long left + place.value.item.length + long right < 2 ^ 64 }
+    ensures items { items result ≡ items left ++ place.value.item ∷ items right }
+    ensures long { long result ≡ long left + place.value.item.length + long right }
     ensures weighed { Weighed result }
     ensures summed { Summed T.neutral T.joined left → Summed T.neutral T.joined right → Summed T.neutral T.joined result }
     ensures colour { red result ≡ ruddy colour }
@@ -78,9 +78,9 @@ pub fn unlink<P: Copy, T: Total>(
     mut place: Box<Node<P, T>>,
 ) -> (Box<Node<P, T>>, Tree<P, T>, Tree<P, T>)
     ensures bare { Bare result.0.value }
-    ensures item { (box_value result.0).item ≡ (box_value place).item }
-    ensures left { result.1 ≡ (box_value place).left }
-    ensures right { result.2 ≡ (box_value place).right }
+    ensures item { result.0.value.item ≡ place.value.item }
+    ensures left { result.1 ≡ place.value.left }
+    ensures right { result.2 ≡ place.value.right }
 {
     let left = std::mem::replace(&mut place.left, Tree::Empty);
     let right = std::mem::replace(&mut place.right, Tree::Empty);

@@ -1,5 +1,5 @@
 // The stock of places: boxes are made once, drawn for new pieces, and given back.
-ghost use Rattle.std.specs.Prelude.{◌≡◌, ℕ, ◌+◌, ◌<◌, ◌≤◌, length, IfOk, vec_len, vec_capacity, box_value};
+ghost use Rattle.std.specs.Prelude.{◌≡◌, ℕ, ◌+◌, ◌<◌, ◌≤◌, length, IfOk, vec_len, vec_capacity};
 ghost use Rattle.nodes.specs.Trees.{items, Bare};
 
 use crate::place::unlink;
@@ -49,7 +49,7 @@ pub fn draw<P: Copy, T: Total>(
 ) -> Box<Node<P, T>>
     requires some { 0 < vec_len stock.old }
     ensures bare { Bare result.value }
-    ensures item { (box_value result).item ≡ item }
+    ensures item { result.value.item ≡ item }
     ensures len { vec_len stock.new + 1 ≡ vec_len stock.old }
     ensures capacity { vec_capacity stock.new ≡ vec_capacity stock.old }
 {

@@ -1,5 +1,5 @@
 // Joining: two trees and a place between them become one tree.
-ghost use Rattle.std.specs.Prelude.{◌≡◌, ℕ, ◌+◌, ◌^◌, ◌<◌, ◌≤◌, true, false, List, ◌∷◌, ◌++◌, box_value};
+ghost use Rattle.std.specs.Prelude.{◌≡◌, ℕ, ◌+◌, ◌^◌, ◌<◌, ◌≤◌, true, false, List, ◌∷◌, ◌++◌};
 ghost use Rattle.nodes.specs.Trees.{items, long, red, blacks, Balanced, Bare, Fair, Legal, LeansLeft, LeansRight, Summed, Weighed};
 ghost use Rattle.piece_tree.specs.Talls.{Sound};
 
@@ -53,12 +53,12 @@ pub(crate) fn join_tall<P: Copy, T: Total>(
     right: Tall<P, T>,
 ) -> Tall<P, T>
     requires bare { Bare place.value }
-    requires fair { Fair (box_value place).item }
+    requires fair { Fair place.value.item }
     requires left_sound { Sound left }
     requires right_sound { Sound right }
-    requires fits { long left.tree + (box_value place).item.length + long right.tree < 2 ^ 64 }
-    ensures items { items result.tree ≡ items left.tree ++ (box_value place).item ∷ items right.tree }
-    ensures long { long result.tree ≡ long left.tree + (box_value place).item.length + long right.tree }
+    requires fits { long left.tree + place.value.item.length + long right.tree < 2 ^ 64 }
+    ensures items { items result.tree ≡ items left.tree ++ place.value.item ∷ items right.tree }
+    ensures long { long result.tree ≡ long left.tree + place.value.item.length + long right.tree }
     ensures sound { Sound result }
     ensures summed { Summed T.neutral T.joined left.tree → Summed T.neutral T.joined right.tree → Summed T.neutral T.joined result.tree }
 {
@@ -80,14 +80,14 @@ pub fn join<P: Copy, T: Total>(
     right: Tree<P, T>,
 ) -> Tree<P, T>
     requires bare { Bare place.value }
-    requires fair { Fair (box_value place).item }
+    requires fair { Fair place.value.item }
     requires left_weighed { Weighed left }
     requires right_weighed { Weighed right }
     requires left_balanced { Balanced left }
     requires right_balanced { Balanced right }
-    requires fits { long left + (box_value place).item.length + long right < 2 ^ 64 }
-    ensures items { items result ≡ items left ++ (box_value place).item ∷ items right }
-    ensures long { long result ≡ long left + (box_value place).item.length + long right }
+    requires fits { long left + place.value.item.length + long right < 2 ^ 64 }
+    ensures items { items result ≡ items left ++ place.value.item ∷ items right }
+    ensures long { long result ≡ long left + place.value.item.length + long right }
     ensures weighed { Weighed result }
     ensures balanced { Balanced result }
     ensures summed { Summed T.neutral T.joined left → Summed T.neutral T.joined right → Summed T.neutral T.joined result }

@@ -1,5 +1,5 @@
 // Splitting: a tree becomes the part before a place, the place, and the part after it.
-ghost use Rattle.std.specs.Prelude.{◌≡◌, ℕ, ◌+◌, ◌^◌, ◌<◌, ◌≤◌, List, [], ◌∷◌, ◌++◌, box_value};
+ghost use Rattle.std.specs.Prelude.{◌≡◌, ℕ, ◌+◌, ◌^◌, ◌<◌, ◌≤◌, List, [], ◌∷◌, ◌++◌};
 ghost use Rattle.nodes.specs.Trees.{items, long, Balanced, Bare, Fair, Summed, Weighed};
 ghost use Rattle.piece_tree.specs.Talls.{Sound};
 
@@ -13,12 +13,12 @@ fn split_tall<P: Copy, T: Total>(whole: Tall<P, T>, offset: usize) -> TallSplit<
     requires sound { Sound whole }
     requires within { offset < long whole.tree }
     requires fits { long whole.tree < 2 ^ 64 }
-    ensures items { items result.left.tree ++ (box_value result.place).item ∷ items result.right.tree ≡ items whole.tree }
-    ensures long { long result.left.tree + (box_value result.place).item.length + long result.right.tree ≡ long whole.tree }
+    ensures items { items result.left.tree ++ result.place.value.item ∷ items result.right.tree ≡ items whole.tree }
+    ensures long { long result.left.tree + result.place.value.item.length + long result.right.tree ≡ long whole.tree }
     ensures offset { long result.left.tree + result.inner ≡ offset }
-    ensures inner { result.inner < (box_value result.place).item.length }
+    ensures inner { result.inner < result.place.value.item.length }
     ensures bare { Bare result.place.value }
-    ensures fair { Fair (box_value result.place).item }
+    ensures fair { Fair result.place.value.item }
     ensures left { Sound result.left }
     ensures right { Sound result.right }
     ensures summed { Summed T.neutral T.joined whole.tree → Summed T.neutral T.joined result.left.tree × Summed T.neutral T.joined result.right.tree }
@@ -67,12 +67,12 @@ pub fn split<P: Copy, T: Total>(tree: Tree<P, T>, offset: usize) -> Split<P, T>
     requires balanced { Balanced tree }
     requires within { offset < long tree }
     requires fits { long tree < 2 ^ 64 }
-    ensures items { items result.left ++ (box_value result.place).item ∷ items result.right ≡ items tree }
-    ensures long { long result.left + (box_value result.place).item.length + long result.right ≡ long tree }
+    ensures items { items result.left ++ result.place.value.item ∷ items result.right ≡ items tree }
+    ensures long { long result.left + result.place.value.item.length + long result.right ≡ long tree }
     ensures offset { long result.left + result.inner ≡ offset }
-    ensures inner { result.inner < (box_value result.place).item.length }
+    ensures inner { result.inner < result.place.value.item.length }
     ensures bare { Bare result.place.value }
-    ensures fair { Fair (box_value result.place).item }
+    ensures fair { Fair result.place.value.item }
     ensures weighed { (Weighed result.left) × (Weighed result.right) }
     ensures balanced { (Balanced result.left) × (Balanced result.right) }
     ensures summed { Summed T.neutral T.joined tree → Summed T.neutral T.joined result.left × Summed T.neutral T.joined result.right }
@@ -101,10 +101,10 @@ pub fn take_first<P: Copy, T: Total>(tree: Tree<P, T>) -> (Box<Node<P, T>>, Tree
     requires balanced { Balanced tree }
     requires some { 0 < long tree }
     requires fits { long tree < 2 ^ 64 }
-    ensures items { (box_value result.0).item ∷ items result.1 ≡ items tree }
-    ensures long { (box_value result.0).item.length + long result.1 ≡ long tree }
+    ensures items { result.0.value.item ∷ items result.1 ≡ items tree }
+    ensures long { result.0.value.item.length + long result.1 ≡ long tree }
     ensures bare { Bare result.0.value }
-    ensures fair { Fair (box_value result.0).item }
+    ensures fair { Fair result.0.value.item }
     ensures weighed { Weighed result.1 }
     ensures balanced { Balanced result.1 }
     ensures summed { Summed T.neutral T.joined tree → Summed T.neutral T.joined result.1 }
@@ -119,10 +119,10 @@ pub fn take_last<P: Copy, T: Total>(tree: Tree<P, T>) -> (Tree<P, T>, Box<Node<P
     requires balanced { Balanced tree }
     requires some { 0 < long tree }
     requires fits { long tree < 2 ^ 64 }
-    ensures items { items result.0 ++ (box_value result.1).item ∷ [] ≡ items tree }
-    ensures long { long result.0 + (box_value result.1).item.length ≡ long tree }
+    ensures items { items result.0 ++ result.1.value.item ∷ [] ≡ items tree }
+    ensures long { long result.0 + result.1.value.item.length ≡ long tree }
     ensures bare { Bare result.1.value }
-    ensures fair { Fair (box_value result.1).item }
+    ensures fair { Fair result.1.value.item }
     ensures weighed { Weighed result.0 }
     ensures balanced { Balanced result.0 }
     ensures summed { Summed T.neutral T.joined tree → Summed T.neutral T.joined result.0 }

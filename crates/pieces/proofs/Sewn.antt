@@ -32,7 +32,7 @@ module _ {T : Type 0} where
 
   -- the test on two items that are given by equations
   pub touch_is : {before after i j : Item Place T} {b : Bool} → before ≡ i → after ≡ j → touches before after ≡ b → touches i j ≡ b
-  touch_is {before = before} {j = j} is-i is-j e = sym (ap (λ x. touches x j) is-i) ∙ sym (ap (touches before) is-j) ∙ e
+  touch_is {before = before} {j = j} is_i is_j e = sym (ap (λ x. touches x j) is_i) ∙ sym (ap (touches before) is_j) ∙ e
 
   -- the places of an item
   abbrev pub own : Item Place T → List Place
@@ -47,8 +47,8 @@ module _ {T : Type 0} (joined : T → T → T) where
 
   -- the item that two become
   pub merged_is : {before after i j : Item Place T} {all : T} → before ≡ i → after ≡ j → all ≡ joined before.total after.total → ◌≡◌ {A = Item Place T} (record { piece = before.piece; length = before.length + after.length; breaks = before.breaks + after.breaks; total = all }) (merged joined i j)
-  merged_is {before = before} {after = after} {j = j} is-i is-j sum =
-      ap (λ t. record { piece = before.piece; length = before.length + after.length; breaks = before.breaks + after.breaks; total = t }) sum ∙ ap (merged joined before) is-j ∙ ap (λ x. merged joined x j) is-i
+  merged_is {before = before} {after = after} {j = j} is_i is_j sum =
+      ap (λ t. record { piece = before.piece; length = before.length + after.length; breaks = before.breaks + after.breaks; total = t }) sum ∙ ap (merged joined before) is_j ∙ ap (λ x. merged joined x j) is_i
 
   -- what holds in both cases
   on_cases : (P : List (Item Place T) → Type 0) (i j : Item Place T) (more : List (Item Place T)) → (touches i j ≡ true → P (merged joined i j ∷ more)) → (touches i j ≡ false → P (i ∷ j ∷ more)) → P (sewn_on joined i (j ∷ more))

@@ -1,5 +1,5 @@
 // Cutting a tree of pieces in two.
-ghost use Rattle.std.specs.Prelude.{◌≡◌, ℕ, ◌+◌, ◌^◌, ◌<◌, ◌≤◌, List, [], ◌∷◌, ◌++◌, length, take, drop, vec_len, vec_capacity, box_value};
+ghost use Rattle.std.specs.Prelude.{◌≡◌, ℕ, ◌+◌, ◌^◌, ◌<◌, ◌≤◌, List, [], ◌∷◌, ◌++◌, length, take, drop, vec_len, vec_capacity};
 ghost use Rattle.nodes.specs.Trees.{items, long, Balanced, Bare, Fair, Summed, Weighed};
 ghost use Rattle.pieces.specs.Faithful.{Faithful};
 ghost use Rattle.pieces.specs.Halves.{Halves};
@@ -29,7 +29,7 @@ pub fn cut<E: Element, T: Measure<E>>(
     ensures back { places result.1 ≡ drop offset (places tree) }
     ensures long { (long result.0 ≡ offset) × (offset + long result.1 ≡ long tree) }
     ensures standing { (Standing (length original.now) (length added.now) result.0) × (Standing (length original.now) (length added.now) result.1) }
-    ensures faithful { Faithful E.Element.breaks T.Total.neutral T.Measure.value T.Total.joined original.now added.now tree → Faithful E.Element.breaks T.Total.neutral T.Measure.value T.Total.joined original.now added.now result.0 × Faithful E.Element.breaks T.Total.neutral T.Measure.value T.Total.joined original.now added.now result.1 }
+    ensures faithful { Faithful E.breaks T.neutral T.value T.joined original.now added.now tree → Faithful E.breaks T.neutral T.value T.joined original.now added.now result.0 × Faithful E.breaks T.neutral T.value T.joined original.now added.now result.1 }
     ensures stock { vec_len stock.new + (length (items result.0) + length (items result.1)) ≡ vec_len stock.old + length (items tree) }
     ensures drawn { vec_len stock.old ≤ vec_len stock.new + 1 }
     ensures capacity { vec_capacity stock.new ≡ vec_capacity stock.old }
@@ -55,15 +55,15 @@ fn cut_piece<E: Element, T: Measure<E>>(
     requires weighed { (Weighed part.left) × (Weighed part.right) }
     requires balanced { (Balanced part.left) × (Balanced part.right) }
     requires bare { Bare part.place.value }
-    requires inner { (0 < part.inner) × (part.inner < (box_value part.place).item.length) }
-    requires inside { (box_value part.place).item.piece.index + (box_value part.place).item.length ≤ size_of (length original.now) (length added.now) (box_value part.place).item.piece.source }
-    requires fits { long part.left + (box_value part.place).item.length + long part.right < 2 ^ 64 }
+    requires inner { (0 < part.inner) × (part.inner < part.place.value.item.length) }
+    requires inside { part.place.value.item.piece.index + part.place.value.item.length ≤ size_of (length original.now) (length added.now) part.place.value.item.piece.source }
+    requires fits { long part.left + part.place.value.item.length + long part.right < 2 ^ 64 }
     requires spare { 0 < vec_len stock.old }
-    ensures halves { Halves E.Element.breaks T.Total.neutral T.Measure.value T.Total.joined original.now added.now (items part.left) (box_value part.place).item part.inner (items part.right) (items result.0) (items result.1) }
-    ensures long { (long result.0 ≡ long part.left + part.inner) × (part.inner + long result.1 ≡ (box_value part.place).item.length + long part.right) }
+    ensures halves { Halves E.breaks T.neutral T.value T.joined original.now added.now (items part.left) part.place.value.item part.inner (items part.right) (items result.0) (items result.1) }
+    ensures long { (long result.0 ≡ long part.left + part.inner) × (part.inner + long result.1 ≡ part.place.value.item.length + long part.right) }
     ensures weighed { (Weighed result.0) × (Weighed result.1) }
     ensures balanced { (Balanced result.0) × (Balanced result.1) }
-    ensures summed { Summed T.Total.neutral T.Total.joined part.left → Summed T.Total.neutral T.Total.joined part.right → Summed T.Total.neutral T.Total.joined result.0 × Summed T.Total.neutral T.Total.joined result.1 }
+    ensures summed { Summed T.neutral T.joined part.left → Summed T.neutral T.joined part.right → Summed T.neutral T.joined result.0 × Summed T.neutral T.joined result.1 }
     ensures len { vec_len stock.new + 1 ≡ vec_len stock.old }
     ensures capacity { vec_capacity stock.new ≡ vec_capacity stock.old }
 {

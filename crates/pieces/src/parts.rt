@@ -41,7 +41,7 @@ pub fn same_source(one: Source, other: Source) -> bool
 
 // How many elements of a part are breaks.
 pub fn count_breaks<E: Element>(part: &[E]) -> usize
-    ensures count { result ≡ count_breaks E.Element.breaks part.now }
+    ensures count { result ≡ count_breaks E.breaks part.now }
     ensures few { result ≤ length part.now }
 {
     let mut count = 0;
@@ -53,7 +53,7 @@ pub fn count_breaks<E: Element>(part: &[E]) -> usize
 
 // 1 for a break, and 0 for any other element.
 fn break_count<E: Element>(element: &E) -> usize
-    ensures { result ≡ (if E.Element.breaks element.now then 1 else 0) }
+    ensures { result ≡ (if E.breaks element.now then 1 else 0) }
 {
     if element.is_break() { 1 } else { 0 }
 }
@@ -70,7 +70,7 @@ pub fn measure_piece<E: Element, T: Measure<E>>(
     ensures piece { result.piece ≡ first }
     ensures length { result.length ≡ count }
     ensures fair { Fair result }
-    ensures carries { Carries E.Element.breaks T.Total.neutral T.Measure.value T.Total.joined original.now added.now result }
+    ensures carries { Carries E.breaks T.neutral T.value T.joined original.now added.now result }
 {
     let part = source_part(original, added, first, count);
     Item {

@@ -1,5 +1,5 @@
 // Sewing two trees of pieces together.
-ghost use Rattle.std.specs.Prelude.{◌≡◌, ℕ, ◌+◌, ◌^◌, ◌<◌, ◌≤◌, List, [], ◌∷◌, ◌++◌, length, vec_len, vec_capacity, box_value};
+ghost use Rattle.std.specs.Prelude.{◌≡◌, ℕ, ◌+◌, ◌^◌, ◌<◌, ◌≤◌, List, [], ◌∷◌, ◌++◌, length, vec_len, vec_capacity};
 ghost use Rattle.ledger.specs.Places.{same_source};
 ghost use Rattle.nodes.specs.Trees.{items, long, Balanced, Bare, Fair, Summed, Weighed};
 ghost use Rattle.pieces.specs.Spread.{merged, sewn, sewn_on, touches};
@@ -33,11 +33,11 @@ fn join_ends<T: Total>(
     requires front_balanced { Balanced front }
     requires back_balanced { Balanced back }
     requires bare { (Bare last.value) × (Bare first.value) }
-    requires fair { (Fair (box_value last).item) × (Fair (box_value first).item) }
-    requires fits { long front + (box_value last).item.length + (box_value first).item.length + long back < 2 ^ 64 }
+    requires fair { (Fair last.value.item) × (Fair first.value.item) }
+    requires fits { long front + last.value.item.length + first.value.item.length + long back < 2 ^ 64 }
     requires room { vec_len stock.old < vec_capacity stock.old }
-    ensures items { items result ≡ items front ++ sewn_on T.joined (box_value last).item ((box_value first).item ∷ items back) }
-    ensures long { long result ≡ long front + (box_value last).item.length + (box_value first).item.length + long back }
+    ensures items { items result ≡ items front ++ sewn_on T.joined last.value.item (first.value.item ∷ items back) }
+    ensures long { long result ≡ long front + last.value.item.length + first.value.item.length + long back }
     ensures weighed { Weighed result }
     ensures balanced { Balanced result }
     ensures summed { Summed T.neutral T.joined front → Summed T.neutral T.joined back → Summed T.neutral T.joined result }

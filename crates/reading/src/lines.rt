@@ -24,7 +24,7 @@ pub fn line_count<E: Element, T: Measure<E>>(
     requires weighed { Weighed tree.now }
     requires inside { Inside (length original.now) (length added.now) (items tree.now) }
     requires fits { long tree.now + 1 < 2 ^ 64 }
-    ensures { Faithful E.Element.breaks T.Total.neutral T.Measure.value T.Total.joined original.now added.now tree.now → result ≡ length (lines E.Element.breaks (elements original.now added.now tree.now)) }
+    ensures { Faithful E.breaks T.neutral T.value T.joined original.now added.now tree.now → result ≡ length (lines E.breaks (elements original.now added.now tree.now)) }
 {
     let all = sums(tree);
     if all.length == 0 {
@@ -48,7 +48,7 @@ pub fn line_of<E: Element, T: Measure<E>>(
     requires inside { Inside (length original.now) (length added.now) (items tree.now) }
     requires fits { long tree.now + 1 < 2 ^ 64 }
     requires within { offset < long tree.now }
-    ensures { Faithful E.Element.breaks T.Total.neutral T.Measure.value T.Total.joined original.now added.now tree.now → result ≡ length (lines E.Element.breaks (take (suc offset) (elements original.now added.now tree.now))) }
+    ensures { Faithful E.breaks T.neutral T.value T.joined original.now added.now tree.now → result ≡ length (lines E.breaks (take (suc offset) (elements original.now added.now tree.now))) }
 {
     let found = find(tree, offset);
     let front = source_part(original, added, found.item.piece, found.inner);
@@ -65,7 +65,7 @@ pub fn line<E: Element, T: Measure<E>>(
     requires weighed { Weighed tree.now }
     requires inside { Inside (length original.now) (length added.now) (items tree.now) }
     requires fits { long tree.now + 1 < 2 ^ 64 }
-    ensures { Faithful E.Element.breaks T.Total.neutral T.Measure.value T.Total.joined original.now added.now tree.now → result ≡ line_found E.Element.breaks (elements original.now added.now tree.now) number }
+    ensures { Faithful E.breaks T.neutral T.value T.joined original.now added.now tree.now → result ≡ line_found E.breaks (elements original.now added.now tree.now) number }
 {
     if number == 0 || number > line_count(original, added, tree) {
         return None;
@@ -85,7 +85,7 @@ fn line_start<E: Element, T: Measure<E>>(
     requires weighed { Weighed tree.now }
     requires inside { Inside (length original.now) (length added.now) (items tree.now) }
     requires fits { long tree.now + 1 < 2 ^ 64 }
-    ensures { Faithful E.Element.breaks T.Total.neutral T.Measure.value T.Total.joined original.now added.now tree.now → result ≡ behind E.Element.breaks number (elements original.now added.now tree.now) }
+    ensures { Faithful E.breaks T.neutral T.value T.joined original.now added.now tree.now → result ≡ behind E.breaks number (elements original.now added.now tree.now) }
 {
     if number == 0 {
         return 0;
@@ -101,7 +101,7 @@ fn line_start<E: Element, T: Measure<E>>(
 
 // How many elements lie up to and including the break of this number, counted from 0: all where there are fewer breaks.
 fn break_position<E: Element>(part: &[E], number: usize) -> usize
-    ensures position { result ≡ behind E.Element.breaks (suc number) part.now }
+    ensures position { result ≡ behind E.breaks (suc number) part.now }
     ensures within { result ≤ length part.now }
 {
     let mut left = number;

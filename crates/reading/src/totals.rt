@@ -24,7 +24,7 @@ pub fn part_total<E: Element, T: Measure<E>>(
     requires inside { Inside (length original.now) (length added.now) (items tree.now) }
     requires fits { long tree.now < 2 ^ 64 }
     requires within { (from ≤ upto) × (upto ≤ long tree.now) }
-    ensures { Faithful E.Element.breaks T.Total.neutral T.Measure.value T.Total.joined original.now added.now tree.now → result ≡ total T.Total.neutral T.Measure.value T.Total.joined (part from upto (elements original.now added.now tree.now)) }
+    ensures { Faithful E.breaks T.neutral T.value T.joined original.now added.now tree.now → result ≡ total T.neutral T.value T.joined (part from upto (elements original.now added.now tree.now)) }
 {
     if from == upto {
         return T::empty();
@@ -61,7 +61,7 @@ fn item_total<E: Element, T: Measure<E>>(
 ) -> T
     requires inside { item.piece.index + item.length ≤ size_of (length original.now) (length added.now) item.piece.source }
     requires within { (from ≤ upto) × (upto ≤ item.length) }
-    ensures { Carries E.Element.breaks T.Total.neutral T.Measure.value T.Total.joined original.now added.now item → result ≡ total T.Total.neutral T.Measure.value T.Total.joined (part from upto (source_part original.now added.now item.piece item.length)) }
+    ensures { Carries E.breaks T.neutral T.value T.joined original.now added.now item → result ≡ total T.neutral T.value T.joined (part from upto (source_part original.now added.now item.piece item.length)) }
 {
     if from == upto {
         return T::empty();

@@ -59,14 +59,14 @@ module _ {P T : Type 0} (neutral : T) (joined : T → T → T) (laws : Monoid ne
 
   opens_value : {tree : Tree P T} {place : Box (Node P T) Global} → tree ≡ Place place → Weighed tree → Opens tree place.value
   opens_value {place = place} is w =
-      let open-w = subst Weighed is w in
+      let open_w = subst Weighed is w in
       record {
         items_are = ap items is;
-        length_is = ap long is ∙ open-w.0;
-        fair = open-w.3;
-        left_weighed = open-w.4;
-        left_within = within place.value.left open-w.4;
-        sides = λ s. let open-s = subst (Summed neutral joined) is s in (open-s.1, open-s.2);
+        length_is = ap long is ∙ open_w.0;
+        fair = open_w.3;
+        left_weighed = open_w.4;
+        left_within = within place.value.left open_w.4;
+        sides = λ s. let open_s = subst (Summed neutral joined) is s in (open_s.1, open_s.2);
       }
 
   pub opens : {tree : Tree P T} {place : Box (Node P T) Global} {node : Node P T} → tree ≡ Place place → node ≡ place.value → Weighed tree → Opens tree node
@@ -85,20 +85,20 @@ module _ {P T : Type 0} (neutral : T) (joined : T → T → T) (laws : Monoid ne
   }
 
   pub stands_here : {tree : Tree P T} {node : Node P T} {found : Found P T} → Opens tree node → found.item ≡ node.item → found.before.length ≡ long node.left → found.before.breaks ≡ broken node.left → found.before.pieces ≡ placed node.left → found.before.total ≡ whole neutral node.left → Stands neutral joined tree found
-  stands_here {node = node} {found = found} o item length_is breaks-is pieces-is total_is =
+  stands_here {node = node} {found = found} o item length_is breaks_is pieces_is total_is =
       let left = node.left in
       record {
         front = items left;
         back = items node.right;
         parts = o.items_are ∙ ap (λ x. items left ++ x ∷ items node.right) (sym item);
         elements = length_is ∙ long_is left o.left_weighed;
-        breaks = breaks-is ∙ broken_is left o.left_weighed;
-        pieces = pieces-is ∙ placed_is left o.left_weighed;
+        breaks = breaks_is ∙ broken_is left o.left_weighed;
+        pieces = pieces_is ∙ placed_is left o.left_weighed;
         total_before = λ s. total_is ∙ whole_is left (o.sides s).0;
       }
 
   pub stands_right : {tree : Tree P T} {node : Node P T} {below found : Found P T} → Opens tree node → Stands neutral joined node.right below → found.item ≡ below.item → found.before.length ≡ long node.left + node.item.length + below.before.length → found.before.breaks ≡ broken node.left + node.item.breaks + below.before.breaks → found.before.pieces ≡ placed node.left + 1 + below.before.pieces → found.before.total ≡ joined (joined (whole neutral node.left) node.item.total) below.before.total → Stands neutral joined tree found
-  stands_right {node = node} {below = below} {found = found} o right item length_is breaks-is pieces-is total_is =
+  stands_right {node = node} {below = below} {found = found} o right item length_is breaks_is pieces_is total_is =
       let left = node.left in
       let it = node.item in
       record {
@@ -106,8 +106,8 @@ module _ {P T : Type 0} (neutral : T) (joined : T → T → T) (laws : Monoid ne
         back = right.back;
         parts = o.items_are ∙ ap (λ xs. items left ++ it ∷ xs) right.parts ∙ sym (turned (items left) right.front right.back it below.item) ∙ ap (λ x. (items left ++ it ∷ right.front) ++ x ∷ right.back) (sym item);
         elements = omega (arith, length_is, long_is left o.left_weighed, right.elements, elements_append (items left) (it ∷ right.front));
-        breaks = omega (arith, breaks-is, broken_is left o.left_weighed, right.breaks, breaks_append (items left) (it ∷ right.front));
-        pieces = omega (arith, pieces-is, placed_is left o.left_weighed, right.pieces, length-append (items left) (it ∷ right.front));
+        breaks = omega (arith, breaks_is, broken_is left o.left_weighed, right.breaks, breaks_append (items left) (it ∷ right.front));
+        pieces = omega (arith, pieces_is, placed_is left o.left_weighed, right.pieces, length-append (items left) (it ∷ right.front));
         total_before = λ s.
             total_is ∙ ap (λ t. joined (joined t it.total) below.before.total) (whole_is left (o.sides s).0) ∙ ap (joined (joined (total_of neutral joined (items left)) it.total)) (right.total_before (o.sides s).1) ∙ total_through (items left) right.front it;
       }

@@ -63,13 +63,13 @@ fits_at original added (r ∷ runs) (suc i) all within = fits_at original added 
 
 -- what is put between two parts
 pub between : (put : List Place) {front back left all before after : List Place} → all ≡ left ++ back → left ≡ front ++ put → front ≡ before → back ≡ after → all ≡ before ++ (put ++ after)
-between put {back = back} {before = before} sewn-up filled is_front is-back =
-    sewn-up ∙ ap (λ ps. ps ++ back) (filled ∙ ap (λ ps. ps ++ put) is_front) ∙ append_assoc before put back ∙ ap (λ ps. before ++ (put ++ ps)) is-back
+between put {back = back} {before = before} sewn_up filled is_front is_back =
+    sewn_up ∙ ap (λ ps. ps ++ back) (filled ∙ ap (λ ps. ps ++ put) is_front) ∙ append_assoc before put back ∙ ap (λ ps. before ++ (put ++ ps)) is_back
 
 -- two parts, one after the other
 pub both_parts : {front back all before after : List Place} → all ≡ front ++ back → front ≡ before → back ≡ after → all ≡ before ++ after
-both_parts {back = back} {before = before} sewn-up is_front is-back =
-    sewn-up ∙ ap (λ ps. ps ++ back) is_front ∙ ap (λ ps. before ++ ps) is-back
+both_parts {back = back} {before = before} sewn_up is_front is_back =
+    sewn_up ∙ ap (λ ps. ps ++ back) is_front ∙ ap (λ ps. before ++ ps) is_back
 
 -- how many runs there are with those of some items
 pub runs_count : {T : Type 0} (before : List Piece) {after : List Piece} (xs : List (Item Place T)) → after ≡ before ++ map piece_of xs → length after ≡ length before + length xs
@@ -77,15 +77,15 @@ runs_count before xs is = omega (arith, ap length is, length-append before (map 
 
 -- the runs of some items, of one, and of some more, pushed in this order
 pub pushed_runs : {T : Type 0} (before : List Piece) {left here after : List Piece} (xs ys : List (Item Place T)) (x : Item Place T) → left ≡ before ++ map piece_of xs → here ≡ left ++ (piece_of x ∷ []) → after ≡ here ++ map piece_of ys → after ≡ before ++ map piece_of (xs ++ x ∷ ys)
-pushed_runs before xs ys x on-left at on-right =
-    on-right ∙ ap (λ rs. rs ++ map piece_of ys) (at ∙ ap (λ rs. rs ++ (piece_of x ∷ [])) on-left) ∙ append_assoc (before ++ map piece_of xs) (piece_of x ∷ []) (map piece_of ys) ∙ append_assoc before (map piece_of xs) (piece_of x ∷ map piece_of ys) ∙ ap (λ rs. before ++ rs) (sym (map-append piece_of xs (x ∷ ys)))
+pushed_runs before xs ys x on_left at on_right =
+    on_right ∙ ap (λ rs. rs ++ map piece_of ys) (at ∙ ap (λ rs. rs ++ (piece_of x ∷ [])) on_left) ∙ append_assoc (before ++ map piece_of xs) (piece_of x ∷ []) (map piece_of ys) ∙ append_assoc before (map piece_of xs) (piece_of x ∷ map piece_of ys) ∙ ap (λ rs. before ++ rs) (sym (map-append piece_of xs (x ∷ ys)))
 
 -- the items of a tree, read off its top place
 pub items_at : {T : Type 0} {tree left right : Tree Place T} {side : Box (Node Place T) Global} {x : Item Place T} → tree ≡ TreePlace side → left ≡ side.value.left → right ≡ side.value.right → x ≡ side.value.item → items left ++ x ∷ items right ≡ items tree
-items_at {right = right} {side = side} {x = x} is on-left on-right at =
-    ap (λ t. items t ++ x ∷ items right) on-left ∙ ap (λ t. items side.value.left ++ x ∷ items t) on-right ∙ ap (λ y. items side.value.left ++ y ∷ items side.value.right) at ∙ sym (ap items is)
+items_at {right = right} {side = side} {x = x} is on_left on_right at =
+    ap (λ t. items t ++ x ∷ items right) on_left ∙ ap (λ t. items side.value.left ++ x ∷ items t) on_right ∙ ap (λ y. items side.value.left ++ y ∷ items side.value.right) at ∙ sym (ap items is)
 
 -- fewer places on either side than in the tree
 pub fewer : {T : Type 0} {tree left right : Tree Place T} {side : Box (Node Place T) Global} {t : ℕ} → tree ≡ TreePlace side → left ≡ side.value.left → right ≡ side.value.right → spots tree ≡ t → (spots left < t) × (spots right < t)
-fewer is on-left on-right count =
-    (omega (arith, ap spots is, ap spots on-left, count), omega (arith, ap spots is, ap spots on-right, count))
+fewer is on_left on_right count =
+    (omega (arith, ap spots is, ap spots on_left, count), omega (arith, ap spots is, ap spots on_right, count))

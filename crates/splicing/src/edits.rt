@@ -32,7 +32,7 @@ pub fn insert_run<E: Element, T: Measure<E>>(
     ensures places { places result ≡ take offset (places tree) ++ (stretch first.source first.index count ++ drop offset (places tree)) }
     ensures long { long result ≡ long tree + count }
     ensures standing { Standing (length original.now) (length added.now) result }
-    ensures faithful { Faithful E.Element.breaks T.Total.neutral T.Measure.value T.Total.joined original.now added.now tree → Faithful E.Element.breaks T.Total.neutral T.Measure.value T.Total.joined original.now added.now result }
+    ensures faithful { Faithful E.breaks T.neutral T.value T.joined original.now added.now tree → Faithful E.breaks T.neutral T.value T.joined original.now added.now result }
     ensures stock { vec_len stock.new + length (items result) ≡ vec_len stock.old + length (items tree) }
     ensures capacity { vec_capacity stock.new ≡ vec_capacity stock.old }
 {
@@ -59,7 +59,7 @@ fn add_run<E: Element, T: Measure<E>>(
     ensures places { places result ≡ places tree ++ stretch first.source first.index count }
     ensures long { long result ≡ long tree + count }
     ensures standing { Standing (length original.now) (length added.now) result }
-    ensures faithful { Faithful E.Element.breaks T.Total.neutral T.Measure.value T.Total.joined original.now added.now tree → Faithful E.Element.breaks T.Total.neutral T.Measure.value T.Total.joined original.now added.now result }
+    ensures faithful { Faithful E.breaks T.neutral T.value T.joined original.now added.now tree → Faithful E.breaks T.neutral T.value T.joined original.now added.now result }
     ensures stock { vec_len stock.new + length (items result) ≡ vec_len stock.old + length (items tree) }
     ensures drawn { vec_len stock.old ≤ vec_len stock.new + 1 }
     ensures capacity { vec_capacity stock.new ≡ vec_capacity stock.old }
@@ -98,7 +98,7 @@ pub fn take_out<E: Element, T: Measure<E>>(
     ensures part { places result.1 ≡ take count (drop offset (places tree)) }
     ensures long { (long result.0 + count ≡ long tree) × (long result.1 ≡ count) }
     ensures standing { (Standing (length original.now) (length added.now) result.0) × (Standing (length original.now) (length added.now) result.1) }
-    ensures faithful { Faithful E.Element.breaks T.Total.neutral T.Measure.value T.Total.joined original.now added.now tree → Faithful E.Element.breaks T.Total.neutral T.Measure.value T.Total.joined original.now added.now result.0 }
+    ensures faithful { Faithful E.breaks T.neutral T.value T.joined original.now added.now tree → Faithful E.breaks T.neutral T.value T.joined original.now added.now result.0 }
     ensures stock { vec_len stock.new + (length (items result.0) + length (items result.1)) ≡ vec_len stock.old + length (items tree) }
     ensures capacity { vec_capacity stock.new ≡ vec_capacity stock.old }
 {
@@ -154,7 +154,7 @@ pub fn put_back<E: Element, T: Measure<E>>(
     ensures places { places result ≡ take offset (places tree) ++ (spelled runs.now ++ drop offset (places tree)) }
     ensures long { long result ≡ long tree + length (spelled runs.now) }
     ensures standing { Standing (length original.now) (length added.now) result }
-    ensures faithful { Faithful E.Element.breaks T.Total.neutral T.Measure.value T.Total.joined original.now added.now tree → Faithful E.Element.breaks T.Total.neutral T.Measure.value T.Total.joined original.now added.now result }
+    ensures faithful { Faithful E.breaks T.neutral T.value T.joined original.now added.now tree → Faithful E.breaks T.neutral T.value T.joined original.now added.now result }
     ensures stock { vec_len stock.new + length (items result) ≡ vec_len stock.old + length (items tree) }
     ensures capacity { vec_capacity stock.new ≡ vec_capacity stock.old }
 {

@@ -31,7 +31,7 @@ impl<'o, E: Element, T: Measure<E>> Text<'o, E, T> {
         ensures added { (result.added.items ≡ []) × (vec_capacity result.added ≡ vec_capacity added) }
         ensures limit { result.limit ≡ limit }
         ensures owned { places_owned result ≡ vec_len stock }
-        ensures measured { Measured E.Element.breaks T.Total.neutral T.Measure.value T.Total.joined result }
+        ensures measured { Measured E.breaks T.neutral T.value T.joined result }
     {
         let mut added = added;
         let mut stock = stock;
@@ -75,7 +75,7 @@ fn whole_tree<E: Element, T: Measure<E>>(
     ensures long { long result ≡ length original.now }
     ensures few { (length (items result) ≤ 1) × ((length original.now ≡ 0 → length (items result) ≡ 0)) }
     ensures standing { Standing (length original.now) (length added.now) result }
-    ensures faithful { Faithful E.Element.breaks T.Total.neutral T.Measure.value T.Total.joined original.now added.now result }
+    ensures faithful { Faithful E.breaks T.neutral T.value T.joined original.now added.now result }
     ensures stock { vec_len stock.new + length (items result) ≡ vec_len stock.old }
     ensures capacity { vec_capacity stock.new ≡ vec_capacity stock.old }
 {

@@ -22,7 +22,7 @@ impl<'o, E: Element, T: Measure<E>> Text<'o, E, T> {
         requires few { length (pieces_of (take offset (text_places self.old) ++ (stretch Added start count ++ drop offset (text_places self.old)))) ≤ self.old.limit }
         ensures places { text_places self.new ≡ take offset (text_places self.old) ++ (stretch Added start count ++ drop offset (text_places self.old)) }
         ensures kept { Kept self.old self.new }
-        ensures measured { Measured E.Element.breaks T.Total.neutral T.Measure.value T.Total.joined self.old → Measured E.Element.breaks T.Total.neutral T.Measure.value T.Total.joined self.new }
+        ensures measured { Measured E.breaks T.neutral T.value T.joined self.old → Measured E.breaks T.neutral T.value T.joined self.new }
     {
         let first = Place {
             source: Source::Added,
@@ -47,7 +47,7 @@ impl<'o, E: Element, T: Measure<E>> Text<'o, E, T> {
         requires few { length (pieces_of (take offset (text_places self.old) ++ drop (offset + count) (text_places self.old))) ≤ self.old.limit }
         ensures places { text_places self.new ≡ take offset (text_places self.old) ++ drop (offset + count) (text_places self.old) }
         ensures kept { Kept self.old self.new }
-        ensures measured { Measured E.Element.breaks T.Total.neutral T.Measure.value T.Total.joined self.old → Measured E.Element.breaks T.Total.neutral T.Measure.value T.Total.joined self.new }
+        ensures measured { Measured E.breaks T.neutral T.value T.joined self.old → Measured E.breaks T.neutral T.value T.joined self.new }
     {
         let tree = std::mem::replace(&mut self.tree, Tree::Empty);
         let (rest, part) = take_out(
@@ -73,7 +73,7 @@ impl<'o, E: Element, T: Measure<E>> Text<'o, E, T> {
         ensures runs { runs.new.items ≡ runs.old.items ++ pieces_of (take count (drop offset (text_places self.old))) }
         ensures capacity { vec_capacity runs.new ≡ vec_capacity runs.old }
         ensures kept { Kept self.old self.new }
-        ensures measured { Measured E.Element.breaks T.Total.neutral T.Measure.value T.Total.joined self.old → Measured E.Element.breaks T.Total.neutral T.Measure.value T.Total.joined self.new }
+        ensures measured { Measured E.breaks T.neutral T.value T.joined self.old → Measured E.breaks T.neutral T.value T.joined self.new }
     {
         let tree = std::mem::replace(&mut self.tree, Tree::Empty);
         let (rest, part) = take_out(
@@ -98,7 +98,7 @@ impl<'o, E: Element, T: Measure<E>> Text<'o, E, T> {
         requires few { length (pieces_of (take offset (text_places self.old) ++ (spelled runs.now ++ drop offset (text_places self.old)))) ≤ self.old.limit }
         ensures places { text_places self.new ≡ take offset (text_places self.old) ++ (spelled runs.now ++ drop offset (text_places self.old)) }
         ensures kept { Kept self.old self.new }
-        ensures measured { Measured E.Element.breaks T.Total.neutral T.Measure.value T.Total.joined self.old → Measured E.Element.breaks T.Total.neutral T.Measure.value T.Total.joined self.new }
+        ensures measured { Measured E.breaks T.neutral T.value T.joined self.old → Measured E.breaks T.neutral T.value T.joined self.new }
     {
         let tree = std::mem::replace(&mut self.tree, Tree::Empty);
         self.tree = put_back(

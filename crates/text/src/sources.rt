@@ -14,7 +14,7 @@ impl<'o, E: Element, T: Measure<E>> Text<'o, E, T> {
         ensures added { added_of self.new ≡ added_of self.old ++ new.now }
         ensures same { SameText self.old self.new }
         ensures written { written self.new ≡ written self.old }
-        ensures measured { Measured E.Element.breaks T.Total.neutral T.Measure.value T.Total.joined self.old → Measured E.Element.breaks T.Total.neutral T.Measure.value T.Total.joined self.new }
+        ensures measured { Measured E.breaks T.neutral T.value T.joined self.old → Measured E.breaks T.neutral T.value T.joined self.new }
     {
         push_all(&mut self.added, new);
     }
@@ -26,7 +26,7 @@ impl<'o, E: Element, T: Measure<E>> Text<'o, E, T> {
         ensures added { added_of self.new ≡ take (vec_len self.old.added - count) (added_of self.old) }
         ensures same { SameText self.old self.new }
         ensures written { written self.new ≡ written self.old }
-        ensures measured { Measured E.Element.breaks T.Total.neutral T.Measure.value T.Total.joined self.old → Measured E.Element.breaks T.Total.neutral T.Measure.value T.Total.joined self.new }
+        ensures measured { Measured E.breaks T.neutral T.value T.joined self.old → Measured E.breaks T.neutral T.value T.joined self.new }
     {
         let left = self.added.len() - count;
         self.added.truncate(left);

@@ -28,19 +28,19 @@ join-requires-then-go_on g c =
     let after = c.deref-2.ensures in
     let more = c.requires.fair.0 in
     let other = c.requires.fair.1 in
-    let long-before = ap (λ n. n.item.length) before in
+    let long_before = ap (λ n. n.item.length) before in
     let long_after = ap (λ n. n.item.length) after in
     record {
       bare = subst Bare (sym c.deref_mut.ensures.value) c.requires.bare.0;
       fair = (
-        omega (arith, more.0, long-before),
-        omega (arith, more.1, other.1, long-before, long_after, ap (λ n. n.item.breaks) before, ap (λ n. n.item.breaks) after),
+        omega (arith, more.0, long_before),
+        omega (arith, more.1, other.1, long_before, long_after, ap (λ n. n.item.breaks) before, ap (λ n. n.item.breaks) after),
       );
       left_weighed = c.requires.front_weighed;
       right_weighed = c.requires.back_weighed;
       left_balanced = c.requires.front_balanced;
       right_balanced = c.requires.back_balanced;
-      fits = omega (arith, c.requires.fits, long-before, long_after);
+      fits = omega (arith, c.requires.fits, long_before, long_after);
     }
 
 pub join-requires-else-go_on : goal.join-requires-else-go_on

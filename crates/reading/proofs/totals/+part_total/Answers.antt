@@ -59,12 +59,12 @@ returns-else-from-eq0 g t c faithful =
     let begin = c.saturating_sub-begin.ensures in
     let end = c.saturating_sub-end.ensures in
     let from_Inner = c.min-in-Place-2.ensures ∙ ap (λ k. min k count) begin in
-    let upto-inner = c.min-in-Place-3.ensures ∙ ap (λ k. min k count) end in
+    let upto_inner = c.min-in-Place-3.ensures ∙ ap (λ k. min k count) end in
     let from_back = c.saturating_sub-begin_behind.ensures ∙ ap (λ k. k - count) begin in
-    let upto-back = c.saturating_sub-end_behind.ensures ∙ ap (λ k. k - count) end in
+    let upto_back = c.saturating_sub-end_behind.ensures ∙ ap (λ k. k - count) end in
     let front = c.part_total-front.ensures (faithful_left b n v j laws original added o faithful) ∙ (λ i. total n v j (part (c.min.ensures i) (c.min-in-Place.ensures i) (elements original added node.left))) in
-    let inner = c.item_total-inner.ensures (faithful_item b n v j laws original added o faithful) ∙ (λ i. total n v j (part (from_Inner i) (upto-inner i) (source_part original added node.item.piece count))) in
-    let back = c.part_total-back.ensures (faithful_right b n v j laws original added o faithful) ∙ (λ i. total n v j (part (from_back i) (upto-back i) (elements original added node.right))) in
+    let inner = c.item_total-inner.ensures (faithful_item b n v j laws original added o faithful) ∙ (λ i. total n v j (part (from_Inner i) (upto_inner i) (source_part original added node.item.piece count))) in
+    let back = c.part_total-back.ensures (faithful_right b n v j laws original added o faithful) ∙ (λ i. total n v j (part (from_back i) (upto_back i) (elements original added node.right))) in
     c.join-in-Place.ensures
     ∙ (λ i. j ((c.join.ensures ∙ (λ k. j (front k) (inner k))) i) (back i))
     ∙ joined_total b n v j laws original added c.args.from c.args.upto c.sums-left.result.length count o c.sums-left.ensures.length refl

@@ -17,10 +17,10 @@ insert_run-requires g c =
     let long_is : long c.replace-tree.result ≡ length (text_places t) = ap long tree_is ∙ sym (long_places t.tree (untruncated t.standing).weighed) in
     let run = stretch Added c.args.start c.args.count in
     let after = take c.args.offset (text_places t) ++ (run ++ drop c.args.offset (text_places t)) in
-    let long-run = stretch_length Added c.args.start c.args.count in
+    let long_run = stretch_length Added c.args.start c.args.count in
     let whole = length-append (take c.args.offset (text_places t)) (run ++ drop c.args.offset (text_places t)) in
     let parts = length-append run (drop c.args.offset (text_places t)) in
-    let pieces = some_pieces after (omega (arith, long-run, whole, parts, c.requires.some)) in
+    let pieces = some_pieces after (omega (arith, long_run, whole, parts, c.requires.some)) in
     let ample = t.ample (omega (arith, pieces, c.requires.few)) in
     record {
       standing = carried c.deref.ensures.value tree_is t.standing;
