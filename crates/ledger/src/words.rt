@@ -35,7 +35,7 @@ pub fn is_mark_name(byte: u8) -> bool
 }
 
 // Where elements are kept: in the read-only original, or in the added source, which grows at its end.
-#[derive(Clone, Copy)]
+#[derive(Clone, Copy, PartialEq, Eq, Debug)]
 pub enum Source {
     Original,
     Added,

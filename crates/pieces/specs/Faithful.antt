@@ -1,5 +1,6 @@
 -- What a tree of pieces carries of the elements that it stands for. Assumes nothing.
-use Rattle.std.specs.Prelude.{◌≡◌, ℕ, ◌+◌, Bool, cond, List, [], ◌∷◌, take, drop}
+use Rattle.std.specs.Prelude.{◌≡◌, ℕ, Bool, List, [], ◌∷◌, take, drop}
+use Rattle.std.specs.List.{count_by}
 use Rattle.measure.specs.Totals.{total}
 use Rattle.ledger.specs.Places.{elements_at, source_list}
 use Rattle.ledger.specs.declared.words.Place.{Place}
@@ -10,8 +11,7 @@ use Rattle.pieces.specs.Spread.{places}
 
 -- how many elements of a list are breaks
 abbrev pub count_breaks : {E : Type 0} → (E → Bool) → List E → ℕ
-count_breaks breaks [] = 0
-count_breaks breaks (e ∷ es) = cond (breaks e) 1 0 + count_breaks breaks es
+count_breaks breaks es = count_by breaks es
 
 module _ {E : Type 0} (original added : List E) where
   -- `length` elements of a source, from a place on

@@ -1,3 +1,4 @@
 pub mod Faithful
 pub mod Halves
+pub mod Sources
 pub mod Spread

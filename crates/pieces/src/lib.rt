@@ -7,5 +7,5 @@ mod parts;
 mod sewing;
 
 pub use cutting::cut;
-pub use parts::{count_breaks, measure_piece, same_source, source_part};
+pub use parts::{Sources, count_breaks};
 pub use sewing::sew;

@@ -1,10 +1,8 @@
 // Sewing two trees of pieces together.
 ghost use Rattle.std.specs.Prelude.{◌≡◌, ℕ, ◌+◌, ◌^◌, ◌<◌, ◌≤◌, List, [], ◌∷◌, ◌++◌, length, vec_len, vec_capacity};
-ghost use Rattle.ledger.specs.Places.{same_source};
 ghost use Rattle.nodes.specs.Trees.{items, long, Balanced, Bare, Fair, Summed, Weighed};
 ghost use Rattle.pieces.specs.Spread.{merged, sewn, sewn_on, touches};
 
-use crate::parts::same_source;
 use ledger::words::Place;
 use measure::Total;
 use nodes::{Item, Node, Tree, sums};
@@ -14,7 +12,7 @@ use piece_tree::{join, take_first, take_last};
 fn go_on<T: Total>(before: Item<Place, T>, after: Item<Place, T>) -> bool
     ensures { result ≡ touches before after }
 {
-    same_source(before.piece.source, after.piece.source)
+    before.piece.source == after.piece.source
         && before.piece.index <= after.piece.index
         && after.piece.index - before.piece.index == before.length
 }

@@ -5,13 +5,13 @@ use Rattle.pieces.proofs.cutting.cut_piece.Goals as goal
 
 pub overflow_add-behind : goal.overflow_add-behind
 overflow_add-behind g c =
-    let inside = inside_read (length c.args.original.now) (length c.args.added.now) c.deref.ensures c.requires.inside in
+    let inside = inside_read (length c.args.sources.original.now) (length c.args.sources.added.now) c.deref.ensures c.requires.inside in
     let long = ap (λ n. n.item.length) c.deref.ensures in
     search rules
 
-pub measure_piece-front-requires : goal.measure_piece-front-requires
-measure_piece-front-requires g c =
-    let inside = inside_read (length c.args.original.now) (length c.args.added.now) c.deref.ensures c.requires.inside in
+pub measure-front-requires : goal.measure-front-requires
+measure-front-requires g c =
+    let inside = inside_read (length c.args.sources.original.now) (length c.args.sources.added.now) c.deref.ensures c.requires.inside in
     let long = ap (λ n. n.item.length) c.deref.ensures in
     record {
       inside = omega (arith, inside, long, c.requires.inner.1);
@@ -23,9 +23,9 @@ overflow_sub-item g c =
     let long = ap (λ n. n.item.length) c.deref.ensures in
     omega (arith, long, c.requires.inner.1)
 
-pub measure_piece-back-requires : goal.measure_piece-back-requires
-measure_piece-back-requires g c =
-    let inside = inside_read (length c.args.original.now) (length c.args.added.now) c.deref.ensures c.requires.inside in
+pub measure-back-requires : goal.measure-back-requires
+measure-back-requires g c =
+    let inside = inside_read (length c.args.sources.original.now) (length c.args.sources.added.now) c.deref.ensures c.requires.inside in
     let long = ap (λ n. n.item.length) c.deref.ensures in
     record {
       inside = omega (arith, inside, long, c.requires.inner.1);
@@ -37,7 +37,7 @@ draw-last-requires g c = record { some = c.requires.spare }
 
 pub join-requires : goal.join-requires
 join-requires g c =
-    let front = c.measure_piece-front.ensures in
+    let front = c.measure-front.ensures in
     let drawn = c.draw-last.ensures in
     record {
       bare = drawn.bare;
@@ -51,7 +51,7 @@ join-requires g c =
 
 pub join-requires-2 : goal.join-requires-2
 join-requires-2 g c =
-    let back = c.measure_piece-back.ensures in
+    let back = c.measure-back.ensures in
     let long = ap (λ n. n.item.length) c.deref.ensures in
     record {
       bare = subst Bare (sym c.deref_mut.ensures.value) c.requires.bare;
@@ -66,16 +66,16 @@ join-requires-2 g c =
 pub returns : goal.returns
 returns g c =
     let node = c.deref.ensures in
-    let front = c.measure_piece-front.ensures in
-    let back = c.measure_piece-back.ensures in
+    let front = c.measure-front.ensures in
+    let back = c.measure-back.ensures in
     let drawn = c.draw-last.ensures in
     let left = c.join.ensures in
     let right = c.join-2.ensures in
     let long = ap (λ n. n.item.length) node in
     record {
       halves = record {
-        first = c.measure_piece-front.result;
-        second = c.measure_piece-back.result;
+        first = c.measure-front.result;
+        second = c.measure-back.result;
         front_is = left.items ∙ ap (λ i. items c.args.part.left ++ i ∷ []) drawn.item;
         back_is = right.items;
         first_piece = front.piece ∙ ap (λ n. n.item.piece) node;

@@ -2,12 +2,12 @@ use Rattle.std.proofs.Common.{length, refl, ap, ◌∙◌, arith}
 use Rattle.measure.specs.Totals.{total}
 use Rattle.pieces.specs.Faithful.{count_breaks}
 use Rattle.pieces.proofs.SourceParts.{part_few}
-use Rattle.pieces.proofs.parts.measure_piece.Goals as goal
+use Rattle.pieces.proofs.parts.Sources.measure.Goals as goal
 
 pub returns : goal.returns
 returns g c =
-    let part = c.source_part-part.ensures in
-    let few = part_few c.args.original.now c.args.added.now c.args.first c.args.count in
+    let part = c.part-part.ensures in
+    let few = part_few c.args.self.original.now c.args.self.added.now c.args.first c.args.count in
     record {
       piece = refl;
       length = refl;
