@@ -1,9 +1,8 @@
 -- What the two parts of a cut tree stand for. Assumes nothing.
-use Rattle.std.proofs.Common.{◌≡◌, ℕ, ◌+◌, ◌≤◌, Bool, List, [], ◌∷◌, ◌++◌, length, take, drop, sym, ap, ◌∙◌, subst, append_assoc, append-nil, arith, length-append, take_at, drop_at}
+use Rattle.std.proofs.Common.{◌≡◌, ℕ, ◌+◌, ◌≤◌, Bool, List, [], ◌∷◌, ◌++◌, take, drop, sym, ap, ◌∙◌, subst, append_assoc, append-nil, arith, take_at, drop_at}
 use Rattle.ledger.specs.Places.{stretch}
 use Rattle.ledger.specs.declared.words.Place.{Place}
 use Rattle.nodes.specs.declared.types.Item.{Item}
-use Rattle.nodes.specs.declared.types.Node.{Node}
 use Rattle.nodes.specs.declared.types.Tree.{Tree}
 use Rattle.nodes.specs.Trees.{items, long, Balanced, Weighed}
 use Rattle.pieces.specs.Faithful.{AllCarry}
@@ -49,10 +48,6 @@ module _ {T : Type 0} where
   inside_at {original} {added} tree front back i s all =
       (inside_back original added front (i ∷ back) (subst (Inside original added) (sym all) s.inside)).0
 
-  -- the same of a place read through a reference
-  pub inside_read : (original added : ℕ) {one other : Node Place T} → one ≡ other → other.item.piece.index + other.item.length ≤ size_of original added other.item.piece.source → one.item.piece.index + one.item.length ≤ size_of original added one.item.piece.source
-  inside_read original added e h = subst (λ (n : Node Place T). n.item.piece.index + n.item.length ≤ size_of original added n.item.piece.source) (sym e) h
-
 module _ {E T : Type 0} (breaks : E → Bool) (neutral : T) (value : E → T) (joined : T → T → T) (original added : List E) where
   -- the halves of a piece spell the piece
   pub halves_whole : (left : List (Item Place T)) (i : Item Place T) (inner : ℕ) (right front back : List (Item Place T)) → Halves breaks neutral value joined original added left i inner right front back → spread front ++ spread back ≡ spread (left ++ i ∷ right)
@@ -96,8 +91,3 @@ module _ {E T : Type 0} (breaks : E → Bool) (neutral : T) (value : E → T) (j
         subst carry (sym h.front_is) (carry_append breaks neutral value joined original added left (h.first ∷ []) (carry_front breaks neutral value joined original added left (i ∷ right) a) (h.first_carries, tt)),
         subst carry (sym h.back_is) (h.second_carries, (carry_back breaks neutral value joined original added left (i ∷ right) a).1),
       )
-
-  -- there is one item more
-  pub halves_count : (left : List (Item Place T)) (i : Item Place T) (inner : ℕ) (right front back : List (Item Place T)) → Halves breaks neutral value joined original added left i inner right front back → length front + length back ≡ length (left ++ i ∷ right) + 1
-  halves_count left i inner right front back h =
-      omega (arith, ap length h.front_is, ap length h.back_is, length-append left (h.first ∷ []), length-append left (i ∷ right))

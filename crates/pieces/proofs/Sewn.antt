@@ -1,7 +1,7 @@
 -- Items and trees sewn together. Assumes nothing.
 use Rattle.std.proofs.Common.{◌≡◌, ℕ, ◌+◌, ◌≤◌, Bool, true, false, ◌&&◌, eqb, List, [], ◌∷◌, ◌++◌, length, take, drop, sym, refl, ap, ◌∙◌, subst, append_assoc, append-nil, arith}
 use mathlib.Core.Bool.{false≢true}
-use Rattle.std.proofs.lemmas.Bool.{and_parts, eqb-true, cond_both, cond-true, cond-false}
+use Rattle.std.proofs.lemmas.Bool.{and_parts, eqb-true, cond_both}
 use Rattle.ledger.specs.Places.{stretch, same_source, source_list}
 use Rattle.ledger.specs.declared.words.Place.{Place}
 use Rattle.ledger.specs.declared.words.Source.{Source}
@@ -30,26 +30,11 @@ module _ {T : Type 0} where
       let parts = and_parts (same_source i.piece.source j.piece.source) (eqb (i.piece.index + i.length) j.piece.index) e in
       (same_true i.piece.source j.piece.source parts.0, eqb-true (i.piece.index + i.length) j.piece.index parts.1)
 
-  -- the test on two items that are given by equations
-  pub touch_is : {before after i j : Item Place T} {b : Bool} → before ≡ i → after ≡ j → touches before after ≡ b → touches i j ≡ b
-  touch_is {before = before} {j = j} is_i is_j e = sym (ap (λ x. touches x j) is_i) ∙ sym (ap (touches before) is_j) ∙ e
-
   -- the places of an item
   abbrev pub own : Item Place T → List Place
   own i = stretch i.piece.source i.piece.index i.length
 
 module _ {T : Type 0} (joined : T → T → T) where
-  pub sewn_touching : (i j : Item Place T) (more : List (Item Place T)) → touches i j ≡ true → sewn_on joined i (j ∷ more) ≡ merged joined i j ∷ more
-  sewn_touching i j more e = cond-true (touches i j) (merged joined i j ∷ more) (i ∷ j ∷ more) e
-
-  pub sewn_apart : (i j : Item Place T) (more : List (Item Place T)) → touches i j ≡ false → sewn_on joined i (j ∷ more) ≡ i ∷ j ∷ more
-  sewn_apart i j more e = cond-false (touches i j) (merged joined i j ∷ more) (i ∷ j ∷ more) e
-
-  -- the item that two become
-  pub merged_is : {before after i j : Item Place T} {all : T} → before ≡ i → after ≡ j → all ≡ joined before.total after.total → ◌≡◌ {A = Item Place T} (record { piece = before.piece; length = before.length + after.length; breaks = before.breaks + after.breaks; total = all }) (merged joined i j)
-  merged_is {before = before} {after = after} {j = j} is_i is_j sum =
-      ap (λ t. record { piece = before.piece; length = before.length + after.length; breaks = before.breaks + after.breaks; total = t }) sum ∙ ap (merged joined before) is_j ∙ ap (λ x. merged joined x j) is_i
-
   -- what holds in both cases
   on_cases : (P : List (Item Place T) → Type 0) (i j : Item Place T) (more : List (Item Place T)) → (touches i j ≡ true → P (merged joined i j ∷ more)) → (touches i j ≡ false → P (i ∷ j ∷ more)) → P (sewn_on joined i (j ∷ more))
   on_cases P i j more p q = cond_both (touches i j) (merged joined i j ∷ more) (i ∷ j ∷ more) P p q
