@@ -3,7 +3,7 @@ use Rattle.std.proofs.Common.{◌≡◌, ℕ, zero, suc, ◌+◌, ◌<◌, ◌�
 use mathlib.Core.List.{map-append}
 use Rattle.std.specs.declared.alloc.Global.{Global}
 use Rattle.std.proofs.lemmas.List.{length-map, take_more}
-use Rattle.ledger.specs.Places.{piece, place, stretch}
+use Rattle.ledger.specs.Places.{piece, stretch}
 use Rattle.ledger.specs.declared.words.Piece.{Piece}
 use Rattle.ledger.specs.declared.words.Place.{Place}
 use Rattle.ledger.specs.declared.words.Source.TheVariants.{Original}
@@ -42,11 +42,11 @@ length_more runs i within =
     )
 
 -- a run put behind those before it
-pub run_added : (before : List Place) (runs : List Piece) (i : ℕ) (first : Place) {left all : List Place} → i < length runs → first ≡ place (get_or runs i blank).source (get_or runs i blank).start → left ≡ before ++ spelled (take i runs) → all ≡ left ++ stretch first.source first.index (get_or runs i blank).length → all ≡ before ++ spelled (take (i + 1) runs)
-run_added before runs i first {left = left} within at so_far added =
+pub run_added : (before : List Place) (runs : List Piece) (i : ℕ) {left all : List Place} → i < length runs → left ≡ before ++ spelled (take i runs) → all ≡ left ++ stretch (get_or runs i blank).source (get_or runs i blank).start (get_or runs i blank).length → all ≡ before ++ spelled (take (i + 1) runs)
+run_added before runs i within so_far added =
     let run = get_or runs i blank in
     let own = stretch run.source run.start run.length in
-    added ∙ ap (λ (p : Place). left ++ stretch p.source p.index run.length) at ∙ ap (λ ps. ps ++ own) so_far ∙ append_assoc before (spelled (take i runs)) own ∙ ap (λ ps. before ++ ps) (sym (spelled_more runs i within))
+    added ∙ ap (λ ps. ps ++ own) so_far ∙ append_assoc before (spelled (take i runs)) own ∙ ap (λ ps. before ++ ps) (sym (spelled_more runs i within))
 
 -- the first runs spell no more places than all
 pub spelled_few : (runs : List Piece) (i : ℕ) → length (spelled (take i runs)) ≤ length (spelled runs)

@@ -1,95 +1,82 @@
 // Changing a tree of pieces: a run put in, a part taken out, kept runs put back.
 ghost use Rattle.std.specs.Prelude.{◌≡◌, ℕ, ◌+◌, ◌^◌, ◌<◌, ◌≤◌, List, [], ◌∷◌, ◌++◌, map, length, take, drop, vec_len, vec_capacity};
-ghost use Rattle.ledger.specs.Places.{place, stretch};
+ghost use Rattle.ledger.specs.Places.{stretch};
 ghost use Rattle.nodes.specs.Trees.{items, long};
-ghost use Rattle.pieces.specs.Faithful.{Faithful};
-ghost use Rattle.pieces.specs.Spread.{piece_of, places, size_of, spelled, AllFit, Standing};
+ghost use Rattle.pieces.specs.Sources.{FaithfulTo, Has, HasAll, StandingOver};
+ghost use Rattle.pieces.specs.Spread.{piece_of, places, spelled};
 
 use element::Element;
 use ledger::words::{Piece, Place};
 use measure::{Measure, Total};
 use nodes::{Node, Tree, draw, unlink};
 use piece_tree::join;
-use pieces::{cut, measure_piece, sew};
+use pieces::{Sources, cut, sew};
 
 // Puts a run of places, `count` from a first one on, behind the first `offset`.
 pub fn insert_run<E: Element, T: Measure<E>>(
-    original: &[E],
-    added: &[E],
+    sources: Sources<'_, E>,
     tree: Tree<Place, T>,
     offset: usize,
     first: Place,
     count: usize,
     stock: &mut Vec<Box<Node<Place, T>>>,
 ) -> Tree<Place, T>
-    requires standing { Standing (length original.now) (length added.now) tree }
+    requires standing { StandingOver sources tree }
     requires within { offset ≤ long tree }
     requires fits { long tree + count < 2 ^ 64 }
     requires some { 0 < count }
-    requires inside { first.index + count ≤ size_of (length original.now) (length added.now) first.source }
+    requires inside { Has sources first count }
     requires spare { 2 ≤ vec_len stock.old }
     requires room { vec_len stock.old + length (items tree) ≤ vec_capacity stock.old }
     ensures places { places result ≡ take offset (places tree) ++ (stretch first.source first.index count ++ drop offset (places tree)) }
     ensures long { long result ≡ long tree + count }
-    ensures standing { Standing (length original.now) (length added.now) result }
-    ensures faithful { Faithful E.breaks T.neutral T.value T.joined original.now added.now tree → Faithful E.breaks T.neutral T.value T.joined original.now added.now result }
+    ensures standing { StandingOver sources.entry result }
+    ensures faithful { FaithfulTo E.breaks T.neutral T.value T.joined sources.entry tree → FaithfulTo E.breaks T.neutral T.value T.joined sources.entry result }
     ensures stock { vec_len stock.new + length (items result) ≡ vec_len stock.old + length (items tree) }
     ensures capacity { vec_capacity stock.new ≡ vec_capacity stock.old }
 {
-    let (left, right) = cut(original, added, tree, offset, stock);
-    let left = add_run(original, added, left, first, count, stock);
+    let (left, right) = cut(sources, tree, offset, stock);
+    let left = add_run(sources, left, first, count, stock);
     sew(left, right, stock)
 }
 
 // A run of places behind all others.
 fn add_run<E: Element, T: Measure<E>>(
-    original: &[E],
-    added: &[E],
+    sources: Sources<'_, E>,
     tree: Tree<Place, T>,
     first: Place,
     count: usize,
     stock: &mut Vec<Box<Node<Place, T>>>,
 ) -> Tree<Place, T>
-    requires standing { Standing (length original.now) (length added.now) tree }
+    requires standing { StandingOver sources tree }
     requires fits { long tree + count < 2 ^ 64 }
     requires some { 0 < count }
-    requires inside { first.index + count ≤ size_of (length original.now) (length added.now) first.source }
+    requires inside { Has sources first count }
     requires spare { 0 < vec_len stock.old }
     requires room { vec_len stock.old + length (items tree) ≤ vec_capacity stock.old }
     ensures places { places result ≡ places tree ++ stretch first.source first.index count }
     ensures long { long result ≡ long tree + count }
-    ensures standing { Standing (length original.now) (length added.now) result }
-    ensures faithful { Faithful E.breaks T.neutral T.value T.joined original.now added.now tree → Faithful E.breaks T.neutral T.value T.joined original.now added.now result }
+    ensures standing { StandingOver sources.entry result }
+    ensures faithful { FaithfulTo E.breaks T.neutral T.value T.joined sources.entry tree → FaithfulTo E.breaks T.neutral T.value T.joined sources.entry result }
     ensures stock { vec_len stock.new + length (items result) ≡ vec_len stock.old + length (items tree) }
     ensures drawn { vec_len stock.old ≤ vec_len stock.new + 1 }
     ensures capacity { vec_capacity stock.new ≡ vec_capacity stock.old }
 {
-    let item = measure_piece(original, added, first, count);
+    let item = sources.measure(first, count);
     let place = draw(stock, item);
     let run = join(Tree::Empty, place, Tree::Empty);
     sew(tree, run, stock)
 }
 
-// The first place of a run.
-fn first_place(run: Piece) -> Place
-    ensures { result ≡ place run.source run.start }
-{
-    Place {
-        source: run.source,
-        index: run.start,
-    }
-}
-
 // Takes `count` places behind the first `offset` out: the rest, sewn together, and the part.
 pub fn take_out<E: Element, T: Measure<E>>(
-    original: &[E],
-    added: &[E],
+    sources: Sources<'_, E>,
     tree: Tree<Place, T>,
     offset: usize,
     count: usize,
     stock: &mut Vec<Box<Node<Place, T>>>,
 ) -> (Tree<Place, T>, Tree<Place, T>)
-    requires standing { Standing (length original.now) (length added.now) tree }
+    requires standing { StandingOver sources tree }
     requires within { offset + count ≤ long tree }
     requires fits { long tree < 2 ^ 64 }
     requires spare { 2 ≤ vec_len stock.old }
@@ -97,13 +84,13 @@ pub fn take_out<E: Element, T: Measure<E>>(
     ensures rest { places result.0 ≡ take offset (places tree) ++ drop (offset + count) (places tree) }
     ensures part { places result.1 ≡ take count (drop offset (places tree)) }
     ensures long { (long result.0 + count ≡ long tree) × (long result.1 ≡ count) }
-    ensures standing { (Standing (length original.now) (length added.now) result.0) × (Standing (length original.now) (length added.now) result.1) }
-    ensures faithful { Faithful E.breaks T.neutral T.value T.joined original.now added.now tree → Faithful E.breaks T.neutral T.value T.joined original.now added.now result.0 }
+    ensures standing { (StandingOver sources.entry result.0) × (StandingOver sources.entry result.1) }
+    ensures faithful { FaithfulTo E.breaks T.neutral T.value T.joined sources.entry tree → FaithfulTo E.breaks T.neutral T.value T.joined sources.entry result.0 }
     ensures stock { vec_len stock.new + (length (items result.0) + length (items result.1)) ≡ vec_len stock.old + length (items tree) }
     ensures capacity { vec_capacity stock.new ≡ vec_capacity stock.old }
 {
-    let (left, rest) = cut(original, added, tree, offset, stock);
-    let (part, right) = cut(original, added, rest, count, stock);
+    let (left, rest) = cut(sources, tree, offset, stock);
+    let (part, right) = cut(sources, rest, count, stock);
     (sew(left, right, stock), part)
 }
 
@@ -138,29 +125,32 @@ pub fn keep_runs<T: Total>(
 
 // Puts runs, one after the other, behind the first `offset` places.
 pub fn put_back<E: Element, T: Measure<E>>(
-    original: &[E],
-    added: &[E],
+    sources: Sources<'_, E>,
     tree: Tree<Place, T>,
     offset: usize,
     runs: &[Piece],
     stock: &mut Vec<Box<Node<Place, T>>>,
 ) -> Tree<Place, T>
-    requires standing { Standing (length original.now) (length added.now) tree }
+    requires standing { StandingOver sources tree }
     requires within { offset ≤ long tree }
     requires fits { long tree + length (spelled runs.now) < 2 ^ 64 }
-    requires inside { AllFit (length original.now) (length added.now) runs.now }
+    requires inside { HasAll sources runs.now }
     requires spare { length runs.now + 1 ≤ vec_len stock.old }
     requires room { vec_len stock.old + length (items tree) ≤ vec_capacity stock.old }
     ensures places { places result ≡ take offset (places tree) ++ (spelled runs.now ++ drop offset (places tree)) }
     ensures long { long result ≡ long tree + length (spelled runs.now) }
-    ensures standing { Standing (length original.now) (length added.now) result }
-    ensures faithful { Faithful E.breaks T.neutral T.value T.joined original.now added.now tree → Faithful E.breaks T.neutral T.value T.joined original.now added.now result }
+    ensures standing { StandingOver sources.entry result }
+    ensures faithful { FaithfulTo E.breaks T.neutral T.value T.joined sources.entry tree → FaithfulTo E.breaks T.neutral T.value T.joined sources.entry result }
     ensures stock { vec_len stock.new + length (items result) ≡ vec_len stock.old + length (items tree) }
     ensures capacity { vec_capacity stock.new ≡ vec_capacity stock.old }
 {
-    let (mut left, right) = cut(original, added, tree, offset, stock);
+    let (mut left, right) = cut(sources, tree, offset, stock);
     for run in runs {
-        left = add_run(original, added, left, first_place(*run), run.length, stock);
+        let first = Place {
+            source: run.source,
+            index: run.start,
+        };
+        left = add_run(sources, left, first, run.length, stock);
     }
     sew(left, right, stock)
 }
