@@ -4,7 +4,7 @@ use Rattle.ledger.specs.declared.words.Place.{Place}
 use Rattle.nodes.specs.declared.types.Item.{Item}
 use Rattle.nodes.specs.declared.types.Tree.{Tree}
 use Rattle.pieces.specs.declared.parts.Sources.{Sources}
-use Rattle.pieces.specs.Faithful.{elements, source_part, Faithful}
+use Rattle.pieces.specs.Faithful.{elements, source_part, Carries, Faithful}
 use Rattle.pieces.specs.Spread.{size_of, AllFit, Inside, Standing}
 use Rattle.ledger.specs.declared.words.Piece.{Piece}
 
@@ -35,6 +35,10 @@ module _ {E : Type 0} (sources : Sources E) where
     StandingOver tree = Standing (length sources.original.now) (length sources.added.now) tree
 
 module _ {E T : Type 0} (breaks : E → Bool) (neutral : T) (value : E → T) (joined : T → T → T) (sources : Sources E) where
-  -- the tree carries what its elements in these sources have
+  -- an item carries what its elements in these sources have
+  abbrev pub TrueTo : Item Place T → Type 0
+  TrueTo item = Carries breaks neutral value joined sources.original.now sources.added.now item
+
+  -- a tree carries what its elements in these sources have
   abbrev pub FaithfulTo : Tree Place T → Type 0
   FaithfulTo tree = Faithful breaks neutral value joined sources.original.now sources.added.now tree

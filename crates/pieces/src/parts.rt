@@ -1,8 +1,8 @@
 // The sources, their parts, and what these carry.
 ghost use Rattle.std.specs.Prelude.{◌≡◌, ℕ, ◌+◌, ◌<◌, ◌≤◌, List, length};
 ghost use Rattle.nodes.specs.Trees.{Fair};
-ghost use Rattle.pieces.specs.Faithful.{count_breaks, Carries};
-ghost use Rattle.pieces.specs.Sources.{part_of, Has};
+ghost use Rattle.pieces.specs.Faithful.{count_breaks};
+ghost use Rattle.pieces.specs.Sources.{part_of, Has, TrueTo};
 
 use element::Element;
 use ledger::words::{Place, Source};
@@ -39,7 +39,7 @@ impl<'s, E: Element> Sources<'s, E> {
         ensures piece { result.piece ≡ first }
         ensures length { result.length ≡ count }
         ensures fair { Fair result }
-        ensures carries { Carries E.breaks T.neutral T.value T.joined self.entry.original.now self.entry.added.now result }
+        ensures carries { TrueTo E.breaks T.neutral T.value T.joined self.entry result }
     {
         let part = self.part(first, count);
         Item {

@@ -2,6 +2,7 @@
 #![tactic(auto)]
 
 mod counts;
+mod ends;
 mod lines;
 mod totals;
 

@@ -2,29 +2,27 @@
 ghost use Rattle.std.specs.Prelude.{◌≡◌, ℕ, ◌+◌, ◌^◌, ◌<◌, ◌≤◌, length};
 ghost use Rattle.measure.specs.Totals.{total};
 ghost use Rattle.nodes.specs.Trees.{items, long, Weighed};
-ghost use Rattle.pieces.specs.Faithful.{elements, source_part, Carries, Faithful};
-ghost use Rattle.pieces.specs.Spread.{size_of, Inside};
+ghost use Rattle.pieces.specs.Sources.{elements_of, part_of, FaithfulTo, Has, InsideOf, TrueTo};
 ghost use Rattle.reading.specs.LineParts.{part};
 
 use element::Element;
 use ledger::words::Place;
 use measure::{Measure, Total, fold};
 use nodes::{Item, Node, Tree, sums};
-use pieces::source_part;
+use pieces::Sources;
 
 // The total of the part from an offset up to another, which is left out. Reads the elements of two pieces at most.
 pub fn part_total<E: Element, T: Measure<E>>(
-    original: &[E],
-    added: &[E],
+    sources: Sources<'_, E>,
     tree: &Tree<Place, T>,
     from: usize,
     upto: usize,
 ) -> T
     requires weighed { Weighed tree.now }
-    requires inside { Inside (length original.now) (length added.now) (items tree.now) }
+    requires inside { InsideOf sources (items tree.now) }
     requires fits { long tree.now < 2 ^ 64 }
     requires within { (from ≤ upto) × (upto ≤ long tree.now) }
-    ensures { Faithful E.breaks T.neutral T.value T.joined original.now added.now tree.now → result ≡ total T.neutral T.value T.joined (part from upto (elements original.now added.now tree.now)) }
+    ensures { FaithfulTo E.breaks T.neutral T.value T.joined sources.entry tree.now → result ≡ total T.neutral T.value T.joined (part from upto (elements_of sources.entry tree.now)) }
 {
     if from == upto {
         return T::empty();
@@ -37,14 +35,14 @@ pub fn part_total<E: Element, T: Measure<E>>(
                 return node.sums.total;
             }
             let left = sums(&node.left).length;
-            let front = part_total(original, added, &node.left, from.min(left), upto.min(left));
+            let front = part_total(sources, &node.left, from.min(left), upto.min(left));
             let begin = from.saturating_sub(left);
             let end = upto.saturating_sub(left);
             let count = node.item.length;
-            let inner = item_total(original, added, node.item, begin.min(count), end.min(count));
+            let inner = item_total(sources, node.item, begin.min(count), end.min(count));
             let begin_behind = begin.saturating_sub(count);
             let end_behind = end.saturating_sub(count);
-            let back = part_total(original, added, &node.right, begin_behind, end_behind);
+            let back = part_total(sources, &node.right, begin_behind, end_behind);
             front.join(inner).join(back)
         }
     }
@@ -53,15 +51,14 @@ pub fn part_total<E: Element, T: Measure<E>>(
 // The total of the part of a piece from an offset in it up to another, which is left out. Reads no elements where that
 // is nothing or the whole piece.
 fn item_total<E: Element, T: Measure<E>>(
-    original: &[E],
-    added: &[E],
+    sources: Sources<'_, E>,
     item: Item<Place, T>,
     from: usize,
     upto: usize,
 ) -> T
-    requires inside { item.piece.index + item.length ≤ size_of (length original.now) (length added.now) item.piece.source }
+    requires inside { Has sources item.piece item.length }
     requires within { (from ≤ upto) × (upto ≤ item.length) }
-    ensures { Carries E.breaks T.neutral T.value T.joined original.now added.now item → result ≡ total T.neutral T.value T.joined (part from upto (source_part original.now added.now item.piece item.length)) }
+    ensures { TrueTo E.breaks T.neutral T.value T.joined sources.entry item → result ≡ total T.neutral T.value T.joined (part from upto (part_of sources.entry item.piece item.length)) }
 {
     if from == upto {
         return T::empty();
@@ -73,5 +70,5 @@ fn item_total<E: Element, T: Measure<E>>(
         source: item.piece.source,
         index: item.piece.index + from,
     };
-    fold(source_part(original, added, first, upto - from))
+    fold(sources.part(first, upto - from))
 }

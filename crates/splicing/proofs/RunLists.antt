@@ -1,18 +1,11 @@
 -- Runs of places, and the runs of a tree. Assumes nothing.
-use Rattle.std.proofs.Common.{◌≡◌, ℕ, zero, suc, ◌+◌, ◌<◌, ◌≤◌, List, [], ◌∷◌, ◌++◌, map, length, get_or, take, drop, Box, sym, refl, ap, ◌∙◌, append_assoc, append-nil, arith, length-append, take-append-drop}
-use mathlib.Core.List.{map-append}
-use Rattle.std.specs.declared.alloc.Global.{Global}
-use Rattle.std.proofs.lemmas.List.{length-map, take_more}
+use Rattle.std.proofs.Common.{◌≡◌, ℕ, zero, suc, ◌+◌, ◌<◌, ◌≤◌, List, [], ◌∷◌, ◌++◌, length, get_or, take, drop, sym, refl, ap, ◌∙◌, append_assoc, append-nil, arith, length-append, take-append-drop}
+use Rattle.std.proofs.lemmas.List.{take_more}
 use Rattle.ledger.specs.Places.{piece, stretch}
 use Rattle.ledger.specs.declared.words.Piece.{Piece}
 use Rattle.ledger.specs.declared.words.Place.{Place}
 use Rattle.ledger.specs.declared.words.Source.TheVariants.{Original}
-use Rattle.nodes.specs.declared.types.Item.{Item}
-use Rattle.nodes.specs.declared.types.Node.{Node}
-use Rattle.nodes.specs.declared.types.Tree.{Tree, Place as TreePlace}
-use Rattle.nodes.specs.Trees.{items}
-use Rattle.nodes.proofs.Shapes.{spots}
-use Rattle.pieces.specs.Spread.{piece_of, spelled, AllFit, Fits}
+use Rattle.pieces.specs.Spread.{spelled, AllFit, Fits}
 use Rattle.pieces.proofs.Spreads.{stretch_length}
 
 spelled_append : (xs ys : List Piece) → spelled (xs ++ ys) ≡ spelled xs ++ spelled ys
@@ -70,22 +63,3 @@ between put {back = back} {before = before} sewn_up filled is_front is_back =
 pub both_parts : {front back all before after : List Place} → all ≡ front ++ back → front ≡ before → back ≡ after → all ≡ before ++ after
 both_parts {back = back} {before = before} sewn_up is_front is_back =
     sewn_up ∙ ap (λ ps. ps ++ back) is_front ∙ ap (λ ps. before ++ ps) is_back
-
--- how many runs there are with those of some items
-pub runs_count : {T : Type 0} (before : List Piece) {after : List Piece} (xs : List (Item Place T)) → after ≡ before ++ map piece_of xs → length after ≡ length before + length xs
-runs_count before xs is = omega (arith, ap length is, length-append before (map piece_of xs), length-map xs piece_of)
-
--- the runs of some items, of one, and of some more, pushed in this order
-pub pushed_runs : {T : Type 0} (before : List Piece) {left here after : List Piece} (xs ys : List (Item Place T)) (x : Item Place T) → left ≡ before ++ map piece_of xs → here ≡ left ++ (piece_of x ∷ []) → after ≡ here ++ map piece_of ys → after ≡ before ++ map piece_of (xs ++ x ∷ ys)
-pushed_runs before xs ys x on_left at on_right =
-    on_right ∙ ap (λ rs. rs ++ map piece_of ys) (at ∙ ap (λ rs. rs ++ (piece_of x ∷ [])) on_left) ∙ append_assoc (before ++ map piece_of xs) (piece_of x ∷ []) (map piece_of ys) ∙ append_assoc before (map piece_of xs) (piece_of x ∷ map piece_of ys) ∙ ap (λ rs. before ++ rs) (sym (map-append piece_of xs (x ∷ ys)))
-
--- the items of a tree, read off its top place
-pub items_at : {T : Type 0} {tree left right : Tree Place T} {side : Box (Node Place T) Global} {x : Item Place T} → tree ≡ TreePlace side → left ≡ side.value.left → right ≡ side.value.right → x ≡ side.value.item → items left ++ x ∷ items right ≡ items tree
-items_at {right = right} {side = side} {x = x} is on_left on_right at =
-    ap (λ t. items t ++ x ∷ items right) on_left ∙ ap (λ t. items side.value.left ++ x ∷ items t) on_right ∙ ap (λ y. items side.value.left ++ y ∷ items side.value.right) at ∙ sym (ap items is)
-
--- fewer places on either side than in the tree
-pub fewer : {T : Type 0} {tree left right : Tree Place T} {side : Box (Node Place T) Global} {t : ℕ} → tree ≡ TreePlace side → left ≡ side.value.left → right ≡ side.value.right → spots tree ≡ t → (spots left < t) × (spots right < t)
-fewer is on_left on_right count =
-    (omega (arith, ap spots is, ap spots on_left, count), omega (arith, ap spots is, ap spots on_right, count))

@@ -5,5 +5,5 @@ use Rattle.reading.proofs.lines.line.Goals as goal
 
 pub returns : goal.returns
 returns g c f =
-    let xs = elements c.args.original.now c.args.added.now c.args.tree.now in
+    let xs = elements c.args.sources.original.now c.args.sources.added.now c.args.tree.now in
     line_is g.E.Element.breaks xs c.args.number c.line_start-start.result c.line_start-stop.result c.saturating_sub.result (omega (arith, c.if-number-eq0.false)) (omega (arith, c.if-number-line_count.false, c.line_count.ensures f)) (c.line_start-start.ensures f) (c.line_start-stop.ensures f) c.saturating_sub.ensures

@@ -11,11 +11,11 @@ overflow_add-result g c =
 pub returns-then-is_break : goal.returns-then-is_break
 returns-then-is_break g c f =
     let all = c.sums-all.ensures in
-    let h = lines_closed c.args.original.now c.args.added.now g.T.Total.neutral g.T.Total.joined c.args.tree.now c.requires.inside c.requires.weighed g.E.Element.breaks g.T.Measure.value f.1 (c.sums-all.result.length - 1) c.element_at.result (omega (arith, all.length, c.if-all-eq0.false)) c.element_at.ensures c.if-is_break.ensures in
+    let h = lines_closed c.args.sources.original.now c.args.sources.added.now g.T.Total.neutral g.T.Total.joined c.args.tree.now c.requires.inside c.requires.weighed g.E.Element.breaks g.T.Measure.value f.1 (c.sums-all.result.length - 1) c.element_at.result (omega (arith, all.length, c.if-all-eq0.false)) c.element_at.ensures c.if-is_break.ensures in
     omega (arith, h, all.breaks)
 
 pub returns-else-is_break : goal.returns-else-is_break
 returns-else-is_break g c f =
     let all = c.sums-all.ensures in
-    let h = lines_open c.args.original.now c.args.added.now g.T.Total.neutral g.T.Total.joined c.args.tree.now c.requires.inside c.requires.weighed g.E.Element.breaks g.T.Measure.value f.1 (c.sums-all.result.length - 1) c.element_at.result (omega (arith, all.length, c.if-all-eq0.false)) c.element_at.ensures c.if-is_break.ensures in
+    let h = lines_open c.args.sources.original.now c.args.sources.added.now g.T.Total.neutral g.T.Total.joined c.args.tree.now c.requires.inside c.requires.weighed g.E.Element.breaks g.T.Measure.value f.1 (c.sums-all.result.length - 1) c.element_at.result (omega (arith, all.length, c.if-all-eq0.false)) c.element_at.ensures c.if-is_break.ensures in
     omega (arith, h, all.breaks)

@@ -7,8 +7,8 @@ use Rattle.reading.proofs.totals.+part_total.Goals as goal
 
 pub returns-then-upto-node : goal.returns-then-upto-node
 returns-then-upto-node g t c faithful =
-    let original = c.args.original.now in
-    let added = c.args.added.now in
+    let original = c.args.sources.original.now in
+    let added = c.args.sources.added.now in
     let tree = c.args.tree.now in
     let o = opens c.in-Place.is c.deref-node.ensures c.requires.weighed c.requires.inside in
     let long = elements_long original added tree c.requires.weighed c.requires.inside in
@@ -51,8 +51,8 @@ returns-else-from-eq0 g t c faithful =
     let v = g.T.Measure.value in
     let j = g.T.Total.joined in
     let laws = g.met.T.Total.monoid in
-    let original = c.args.original.now in
-    let added = c.args.added.now in
+    let original = c.args.sources.original.now in
+    let added = c.args.sources.added.now in
     let node = c.deref-node.result.now in
     let count = node.item.length in
     let o = opens c.in-Place.is c.deref-node.ensures c.requires.weighed c.requires.inside in

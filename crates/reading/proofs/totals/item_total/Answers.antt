@@ -7,8 +7,8 @@ use Rattle.reading.proofs.totals.item_total.Goals as goal
 
 pub returns-then-upto-item : goal.returns-then-upto-item
 returns-then-upto-item g c carries =
-    let o = c.args.original.now in
-    let a = c.args.added.now in
+    let o = c.args.sources.original.now in
+    let a = c.args.sources.added.now in
     let i = c.args.item in
     let few = part_few o a i.piece i.length in
     let all = part_all c.args.from c.args.upto (source_part o a i.piece i.length) c.if-from-eq0.true (omega (arith, few, c.if-upto-item.true)) in
@@ -16,5 +16,5 @@ returns-then-upto-item g c carries =
 
 pub returns : goal.returns
 returns g c carries =
-    let inner = part_inner c.args.original.now c.args.added.now c.args.item.piece c.args.item.length c.args.from c.args.upto c.requires.within.0 c.requires.within.1 in
-    c.fold.ensures.whole ∙ ap (total g.T.Total.neutral g.T.Measure.value g.T.Total.joined) (c.source_part.ensures ∙ sym inner)
+    let inner = part_inner c.args.sources.original.now c.args.sources.added.now c.args.item.piece c.args.item.length c.args.from c.args.upto c.requires.within.0 c.requires.within.1 in
+    c.fold.ensures.whole ∙ ap (total g.T.Total.neutral g.T.Measure.value g.T.Total.joined) (c.part.ensures ∙ sym inner)
