@@ -2,9 +2,9 @@
 #![tactic(auto)]
 
 mod joining;
+mod raw;
 mod splitting;
 mod types;
 
-pub use joining::join;
-pub use splitting::{concat, split, take_first, take_last};
-pub use types::Split;
+pub use raw::{concat, join, split, take_first, take_last};
+pub use types::{PieceTree, Split};

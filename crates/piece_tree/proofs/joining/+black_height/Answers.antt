@@ -4,7 +4,4 @@ use Rattle.piece_tree.proofs.joining.+black_height.Goals as goal
 
 -- a tree is no taller than it is long, and its length fits
 pub overflow_add-result : goal.overflow_add-result
-overflow_add-result g t c =
-    let h = low_place c.in-Place.is c.requires.weighed in
-    let d = c.deref-node.ensures in
-    search rules
+overflow_add-result g t c = let h = low_place c.in-Place.is c.requires.weighed in search rules
