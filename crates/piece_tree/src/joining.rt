@@ -5,7 +5,7 @@ ghost use Rattle.nodes.specs.Trees.{items, long, red, blacks, Balanced, Bare, Fa
 use crate::types::PieceTree;
 use balance::{join_left, join_right};
 use measure::Total;
-use nodes::{Colour, Node, Tree, blacken, is_red};
+use nodes::{Node, Tree, blacken, is_red};
 
 impl<P: Copy, T: Total> PieceTree<P, T> {
     // The tree of no pieces.
@@ -30,17 +30,6 @@ impl<P: Copy, T: Total> PieceTree<P, T> {
         ensures summed { Summed T.neutral T.joined result.tree }
     {
         Self::empty().join(place, Self::empty())
-    }
-
-    // A tree whose height is counted.
-    pub fn from_tree(tree: Tree<P, T>) -> Self
-        requires weighed { Weighed tree }
-        requires balanced { Balanced tree }
-        requires fits { long tree < 2 ^ 64 }
-        ensures { result.tree ≡ tree }
-    {
-        let height = black_height(&tree);
-        PieceTree { tree, height }
     }
 
     // The tree with its top place painted black.
@@ -78,20 +67,5 @@ impl<P: Copy, T: Total> PieceTree<P, T> {
             let tree = join_left(place, self.tree, self.height, right.tree, right.height);
             Self::blackened(tree, height)
         }
-    }
-}
-
-// The black height of a tree: the black places on the way down its left side.
-fn black_height<P, T>(tree: &Tree<P, T>) -> usize
-    requires weighed { Weighed tree.now }
-    requires fits { long tree.now < 2 ^ 64 }
-    ensures { result ≡ blacks tree.now }
-{
-    match tree {
-        Tree::Empty => 0,
-        Tree::Place(place) => match place.colour {
-            Colour::Red => black_height(&place.left),
-            Colour::Black => black_height(&place.left) + 1,
-        },
     }
 }

@@ -2,9 +2,7 @@
 #![tactic(auto)]
 
 mod joining;
-mod raw;
 mod splitting;
 mod types;
 
-pub use raw::{concat, join, split, take_first, take_last};
 pub use types::{PieceTree, Split};

@@ -16,7 +16,7 @@ impl<P: Copy, T: Total> PieceTree<P, T> {
 
     // Splits at the piece that holds the offset: what lies before the piece, its place, the offset inside the piece, and
     // what lies after it.
-    pub fn split(self, offset: usize) -> Split<P, T, Self>
+    pub fn split(self, offset: usize) -> Split<P, T>
         requires within { offset < long self.tree }
         ensures items { items result.left.tree ++ result.place.value.item ∷ items result.right.tree ≡ items self.tree }
         ensures long { long result.left.tree + result.place.value.item.length + long result.right.tree ≡ long self.tree }

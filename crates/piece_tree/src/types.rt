@@ -18,9 +18,9 @@ pub struct PieceTree<P, T> {
 
 // A tree split at a place, with the offset inside the place's piece.
 #[derive(Drop)]
-pub struct Split<P, T, S = Tree<P, T>> {
-    pub left: S,
+pub struct Split<P, T> {
+    pub left: PieceTree<P, T>,
     pub place: Box<Node<P, T>>,
     pub inner: usize,
-    pub right: S,
+    pub right: PieceTree<P, T>,
 }
