@@ -1,1 +1,1 @@
-pub mod Talls
+pub mod OneProof

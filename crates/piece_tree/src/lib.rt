@@ -5,6 +5,4 @@ mod joining;
 mod splitting;
 mod types;
 
-pub use joining::join;
-pub use splitting::{concat, split, take_first, take_last};
-pub use types::Split;
+pub use types::{PieceTree, Split};
