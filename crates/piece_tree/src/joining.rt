@@ -29,7 +29,31 @@ impl<P: Copy, T: Total> PieceTree<P, T> {
         ensures long { long result.tree ≡ place.value.item.length }
         ensures summed { Summed T.neutral T.joined result.tree }
     {
-        Self::empty().join(place, Self::empty())
+        Self::empty().push_back(place)
+    }
+
+    // A place before this tree.
+    pub fn push_front(self, place: Box<Node<P, T>>) -> Self
+        requires bare { Bare place.value }
+        requires fair { Fair place.value.item }
+        requires fits { place.value.item.length + long self.tree < 2 ^ 64 }
+        ensures items { items result.tree ≡ place.value.item ∷ items self.tree }
+        ensures long { long result.tree ≡ place.value.item.length + long self.tree }
+        ensures summed { Summed T.neutral T.joined self.tree → Summed T.neutral T.joined result.tree }
+    {
+        Self::empty().join(place, self)
+    }
+
+    // A place behind this tree.
+    pub fn push_back(self, place: Box<Node<P, T>>) -> Self
+        requires bare { Bare place.value }
+        requires fair { Fair place.value.item }
+        requires fits { long self.tree + place.value.item.length < 2 ^ 64 }
+        ensures items { items result.tree ≡ items self.tree ++ place.value.item ∷ [] }
+        ensures long { long result.tree ≡ long self.tree + place.value.item.length }
+        ensures summed { Summed T.neutral T.joined self.tree → Summed T.neutral T.joined result.tree }
+    {
+        self.join(place, Self::empty())
     }
 
     // The tree with its top place painted black.

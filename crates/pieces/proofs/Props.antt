@@ -4,46 +4,12 @@ use mathlib.Core.Bool.{Bool-set}
 use mathlib.Core.HLevel.{Unit-prop}
 use mathlib.Core.Logic.{∥∥₁_elim}
 use native.Mathlib.Bridge.{le_prop}
-use native.Mathlib.Nat.{ℕ_set}
 use Rattle.ledger.specs.declared.words.Place.{Place}
-use Rattle.nodes.specs.declared.types.Colour.{Colour}
-use Rattle.nodes.specs.declared.types.Colour.TheVariants.{Red, Black}
 use Rattle.nodes.specs.declared.types.Item.{Item}
 use Rattle.nodes.specs.declared.types.Tree.{Tree}
-use Rattle.nodes.specs.declared.types.Tree.TheVariants.{Empty, Place'}
-use Rattle.nodes.specs.Trees.{items, long, broken, placed, red, blacks, Balanced, Calm, Legal, Weighed}
+use Rattle.nodes.specs.Trees.{items}
+use Rattle.piece_tree.specs.OneProof.{balanced_prop, weighed_prop}
 use Rattle.pieces.specs.Spread.{touches, Apart, Inside, Standing, StartsApart}
-
-module _ {P T : Type 0} where
-  pub weighed_prop : (tree : Tree P T) → IsProp (Weighed tree)
-  weighed_prop Empty x y = Unit-prop x y
-  weighed_prop (Place' p colour left item right sums) x y =
-      λ i. (
-        ℕ_set sums.length (long left + item.length + long right) x.0 y.0 i,
-        ℕ_set sums.breaks (broken left + item.breaks + broken right) x.1 y.1 i,
-        ℕ_set sums.pieces (placed left + 1 + placed right) x.2 y.2 i,
-        (le_prop x.3.0 y.3.0 i, le_prop x.3.1 y.3.1 i),
-        weighed_prop left x.4 y.4 i,
-        weighed_prop right x.5 y.5 i,
-      )
-
-  calm_prop : (colour : Colour) (side : Tree P T) → IsProp (Calm colour side)
-  calm_prop Red side = Bool-set (red side) false
-  calm_prop Black side = Unit-prop
-
-  legal_prop : (tree : Tree P T) → IsProp (Legal tree)
-  legal_prop Empty x y = Unit-prop x y
-  legal_prop (Place' p colour left item right sums) x y =
-      λ i. (
-        ℕ_set (blacks left) (blacks right) x.0 y.0 i,
-        calm_prop colour left x.1 y.1 i,
-        calm_prop colour right x.2 y.2 i,
-        legal_prop left x.3 y.3 i,
-        legal_prop right x.4 y.4 i,
-      )
-
-  pub balanced_prop : (tree : Tree P T) → IsProp (Balanced tree)
-  balanced_prop tree x y = λ i. (Bool-set (red tree) false x.0 y.0 i, legal_prop tree x.1 y.1 i)
 
 module _ {T : Type 0} where
   starts_apart_prop : (item : Item Place T) (more : List (Item Place T)) → IsProp (StartsApart item more)

@@ -9,36 +9,35 @@ use crate::parts::Sources;
 use element::Element;
 use ledger::words::Place;
 use measure::{Measure, Total};
-use nodes::{Item, Node, Tree, draw, sums};
-use piece_tree::{Split, join, split};
+use nodes::{Item, Node, draw};
+use piece_tree::{PieceTree, Split};
 
 // Cuts a tree in two at an offset: the pieces before it, and those behind it. A piece that lies on both sides is cut and
 // measured anew.
 pub fn cut<E: Element, T: Measure<E>>(
     sources: Sources<'_, E>,
-    tree: Tree<Place, T>,
+    tree: PieceTree<Place, T>,
     offset: usize,
     stock: &mut Vec<Box<Node<Place, T>>>,
-) -> (Tree<Place, T>, Tree<Place, T>)
-    requires standing { StandingOver sources tree }
-    requires within { offset ≤ long tree }
-    requires fits { long tree < 2 ^ 64 }
+) -> (PieceTree<Place, T>, PieceTree<Place, T>)
+    requires standing { StandingOver sources tree.tree }
+    requires within { offset ≤ long tree.tree }
     requires spare { 0 < vec_len stock.old }
-    ensures front { places result.0 ≡ take offset (places tree) }
-    ensures back { places result.1 ≡ drop offset (places tree) }
-    ensures long { (long result.0 ≡ offset) × (offset + long result.1 ≡ long tree) }
-    ensures standing { (StandingOver sources.entry result.0) × (StandingOver sources.entry result.1) }
-    ensures faithful { FaithfulTo E.breaks T.neutral T.value T.joined sources.entry tree → FaithfulTo E.breaks T.neutral T.value T.joined sources.entry result.0 × FaithfulTo E.breaks T.neutral T.value T.joined sources.entry result.1 }
-    ensures stock { vec_len stock.new + (length (items result.0) + length (items result.1)) ≡ vec_len stock.old + length (items tree) }
+    ensures front { places result.0.tree ≡ take offset (places tree.tree) }
+    ensures back { places result.1.tree ≡ drop offset (places tree.tree) }
+    ensures long { (long result.0.tree ≡ offset) × (offset + long result.1.tree ≡ long tree.tree) }
+    ensures standing { (StandingOver sources.entry result.0.tree) × (StandingOver sources.entry result.1.tree) }
+    ensures faithful { FaithfulTo E.breaks T.neutral T.value T.joined sources.entry tree.tree → FaithfulTo E.breaks T.neutral T.value T.joined sources.entry result.0.tree × FaithfulTo E.breaks T.neutral T.value T.joined sources.entry result.1.tree }
+    ensures stock { vec_len stock.new + (length (items result.0.tree) + length (items result.1.tree)) ≡ vec_len stock.old + length (items tree.tree) }
     ensures drawn { vec_len stock.old ≤ vec_len stock.new + 1 }
     ensures capacity { vec_capacity stock.new ≡ vec_capacity stock.old }
 {
-    if offset == sums(&tree).length {
-        return (tree, Tree::Empty);
+    if offset == tree.len() {
+        return (tree, PieceTree::empty());
     }
-    let part = split(tree, offset);
+    let part = tree.split(offset);
     if part.inner == 0 {
-        let back = join(Tree::Empty, part.place, part.right);
+        let back = part.right.push_front(part.place);
         return (part.left, back);
     }
     cut_piece(sources, part, stock)
@@ -49,19 +48,15 @@ fn cut_piece<E: Element, T: Measure<E>>(
     sources: Sources<'_, E>,
     part: Split<Place, T>,
     stock: &mut Vec<Box<Node<Place, T>>>,
-) -> (Tree<Place, T>, Tree<Place, T>)
-    requires weighed { (Weighed part.left) × (Weighed part.right) }
-    requires balanced { (Balanced part.left) × (Balanced part.right) }
+) -> (PieceTree<Place, T>, PieceTree<Place, T>)
     requires bare { Bare part.place.value }
     requires inner { (0 < part.inner) × (part.inner < part.place.value.item.length) }
     requires inside { Has sources part.place.value.item.piece part.place.value.item.length }
-    requires fits { long part.left + part.place.value.item.length + long part.right < 2 ^ 64 }
+    requires fits { long part.left.tree + part.place.value.item.length + long part.right.tree < 2 ^ 64 }
     requires spare { 0 < vec_len stock.old }
-    ensures halves { Halves E.breaks T.neutral T.value T.joined sources.entry.original.now sources.entry.added.now (items part.left) part.place.value.item part.inner (items part.right) (items result.0) (items result.1) }
-    ensures long { (long result.0 ≡ long part.left + part.inner) × (part.inner + long result.1 ≡ part.place.value.item.length + long part.right) }
-    ensures weighed { (Weighed result.0) × (Weighed result.1) }
-    ensures balanced { (Balanced result.0) × (Balanced result.1) }
-    ensures summed { Summed T.neutral T.joined part.left → Summed T.neutral T.joined part.right → Summed T.neutral T.joined result.0 × Summed T.neutral T.joined result.1 }
+    ensures halves { Halves E.breaks T.neutral T.value T.joined sources.entry.original.now sources.entry.added.now (items part.left.tree) part.place.value.item part.inner (items part.right.tree) (items result.0.tree) (items result.1.tree) }
+    ensures long { (long result.0.tree ≡ long part.left.tree + part.inner) × (part.inner + long result.1.tree ≡ part.place.value.item.length + long part.right.tree) }
+    ensures summed { Summed T.neutral T.joined part.left.tree → Summed T.neutral T.joined part.right.tree → Summed T.neutral T.joined result.0.tree × Summed T.neutral T.joined result.1.tree }
     ensures len { vec_len stock.new + 1 ≡ vec_len stock.old }
     ensures capacity { vec_capacity stock.new ≡ vec_capacity stock.old }
 {
@@ -81,8 +76,5 @@ fn cut_piece<E: Element, T: Measure<E>>(
     let last = draw(stock, front);
     let mut first = place;
     first.item = back;
-    (
-        join(left, last, Tree::Empty),
-        join(Tree::Empty, first, right),
-    )
+    (left.push_back(last), right.push_front(first))
 }

@@ -10,8 +10,8 @@ returns-clause-halves g c =
     record {
       first = c.measure-front.result;
       second = c.measure-back.result;
-      front_is = c.join.ensures.items ∙ ap (λ i. items c.args.part.left ++ i ∷ []) c.draw-last.ensures.item;
-      back_is = c.join-2.ensures.items;
+      front_is = c.push_back.ensures.items ∙ ap (λ i. items c.args.part.left.tree ++ i ∷ []) c.draw-last.ensures.item;
+      back_is = c.push_front.ensures.items;
       first_piece = front.piece ∙ ap (λ n. n.item.piece) node;
       first_length = front.length;
       second_source = ap (λ p. p.source) back.piece ∙ ap (λ n. n.item.piece.source) node;
