@@ -9,30 +9,30 @@ use element::Element;
 use ledger::words::{Piece, Place};
 use measure::{Measure, Total};
 use nodes::{Node, Tree, draw, unlink};
-use piece_tree::join;
+use piece_tree::PieceTree;
 use pieces::{Sources, cut, sew};
 
 // Puts a run of places, `count` from a first one on, behind the first `offset`.
 pub fn insert_run<E: Element, T: Measure<E>>(
     sources: Sources<'_, E>,
-    tree: Tree<Place, T>,
+    tree: PieceTree<Place, T>,
     offset: usize,
     first: Place,
     count: usize,
     stock: &mut Vec<Box<Node<Place, T>>>,
-) -> Tree<Place, T>
-    requires standing { StandingOver sources tree }
-    requires within { offset ≤ long tree }
-    requires fits { long tree + count < 2 ^ 64 }
+) -> PieceTree<Place, T>
+    requires standing { StandingOver sources tree.tree }
+    requires within { offset ≤ long tree.tree }
+    requires fits { long tree.tree + count < 2 ^ 64 }
     requires some { 0 < count }
     requires inside { Has sources first count }
     requires spare { 2 ≤ vec_len stock.old }
-    requires room { vec_len stock.old + length (items tree) ≤ vec_capacity stock.old }
-    ensures places { places result ≡ take offset (places tree) ++ (stretch first.source first.index count ++ drop offset (places tree)) }
-    ensures long { long result ≡ long tree + count }
-    ensures standing { StandingOver sources.entry result }
-    ensures faithful { FaithfulTo E.breaks T.neutral T.value T.joined sources.entry tree → FaithfulTo E.breaks T.neutral T.value T.joined sources.entry result }
-    ensures stock { vec_len stock.new + length (items result) ≡ vec_len stock.old + length (items tree) }
+    requires room { vec_len stock.old + length (items tree.tree) ≤ vec_capacity stock.old }
+    ensures places { places result.tree ≡ take offset (places tree.tree) ++ (stretch first.source first.index count ++ drop offset (places tree.tree)) }
+    ensures long { long result.tree ≡ long tree.tree + count }
+    ensures standing { StandingOver sources.entry result.tree }
+    ensures faithful { FaithfulTo E.breaks T.neutral T.value T.joined sources.entry tree.tree → FaithfulTo E.breaks T.neutral T.value T.joined sources.entry result.tree }
+    ensures stock { vec_len stock.new + length (items result.tree) ≡ vec_len stock.old + length (items tree.tree) }
     ensures capacity { vec_capacity stock.new ≡ vec_capacity stock.old }
 {
     let (left, right) = cut(sources, tree, offset, stock);
@@ -43,50 +43,49 @@ pub fn insert_run<E: Element, T: Measure<E>>(
 // A run of places behind all others.
 fn add_run<E: Element, T: Measure<E>>(
     sources: Sources<'_, E>,
-    tree: Tree<Place, T>,
+    tree: PieceTree<Place, T>,
     first: Place,
     count: usize,
     stock: &mut Vec<Box<Node<Place, T>>>,
-) -> Tree<Place, T>
-    requires standing { StandingOver sources tree }
-    requires fits { long tree + count < 2 ^ 64 }
+) -> PieceTree<Place, T>
+    requires standing { StandingOver sources tree.tree }
+    requires fits { long tree.tree + count < 2 ^ 64 }
     requires some { 0 < count }
     requires inside { Has sources first count }
     requires spare { 0 < vec_len stock.old }
-    requires room { vec_len stock.old + length (items tree) ≤ vec_capacity stock.old }
-    ensures places { places result ≡ places tree ++ stretch first.source first.index count }
-    ensures long { long result ≡ long tree + count }
-    ensures standing { StandingOver sources.entry result }
-    ensures faithful { FaithfulTo E.breaks T.neutral T.value T.joined sources.entry tree → FaithfulTo E.breaks T.neutral T.value T.joined sources.entry result }
-    ensures stock { vec_len stock.new + length (items result) ≡ vec_len stock.old + length (items tree) }
+    requires room { vec_len stock.old + length (items tree.tree) ≤ vec_capacity stock.old }
+    ensures places { places result.tree ≡ places tree.tree ++ stretch first.source first.index count }
+    ensures long { long result.tree ≡ long tree.tree + count }
+    ensures standing { StandingOver sources.entry result.tree }
+    ensures faithful { FaithfulTo E.breaks T.neutral T.value T.joined sources.entry tree.tree → FaithfulTo E.breaks T.neutral T.value T.joined sources.entry result.tree }
+    ensures stock { vec_len stock.new + length (items result.tree) ≡ vec_len stock.old + length (items tree.tree) }
     ensures drawn { vec_len stock.old ≤ vec_len stock.new + 1 }
     ensures capacity { vec_capacity stock.new ≡ vec_capacity stock.old }
 {
     let item = sources.measure(first, count);
     let place = draw(stock, item);
-    let run = join(Tree::Empty, place, Tree::Empty);
+    let run = PieceTree::single(place);
     sew(tree, run, stock)
 }
 
 // Takes `count` places behind the first `offset` out: the rest, sewn together, and the part.
 pub fn take_out<E: Element, T: Measure<E>>(
     sources: Sources<'_, E>,
-    tree: Tree<Place, T>,
+    tree: PieceTree<Place, T>,
     offset: usize,
     count: usize,
     stock: &mut Vec<Box<Node<Place, T>>>,
-) -> (Tree<Place, T>, Tree<Place, T>)
-    requires standing { StandingOver sources tree }
-    requires within { offset + count ≤ long tree }
-    requires fits { long tree < 2 ^ 64 }
+) -> (PieceTree<Place, T>, PieceTree<Place, T>)
+    requires standing { StandingOver sources tree.tree }
+    requires within { offset + count ≤ long tree.tree }
     requires spare { 2 ≤ vec_len stock.old }
-    requires room { vec_len stock.old + length (items tree) ≤ vec_capacity stock.old }
-    ensures rest { places result.0 ≡ take offset (places tree) ++ drop (offset + count) (places tree) }
-    ensures part { places result.1 ≡ take count (drop offset (places tree)) }
-    ensures long { (long result.0 + count ≡ long tree) × (long result.1 ≡ count) }
-    ensures standing { (StandingOver sources.entry result.0) × (StandingOver sources.entry result.1) }
-    ensures faithful { FaithfulTo E.breaks T.neutral T.value T.joined sources.entry tree → FaithfulTo E.breaks T.neutral T.value T.joined sources.entry result.0 }
-    ensures stock { vec_len stock.new + (length (items result.0) + length (items result.1)) ≡ vec_len stock.old + length (items tree) }
+    requires room { vec_len stock.old + length (items tree.tree) ≤ vec_capacity stock.old }
+    ensures rest { places result.0.tree ≡ take offset (places tree.tree) ++ drop (offset + count) (places tree.tree) }
+    ensures part { places result.1.tree ≡ take count (drop offset (places tree.tree)) }
+    ensures long { (long result.0.tree + count ≡ long tree.tree) × (long result.1.tree ≡ count) }
+    ensures standing { (StandingOver sources.entry result.0.tree) × (StandingOver sources.entry result.1.tree) }
+    ensures faithful { FaithfulTo E.breaks T.neutral T.value T.joined sources.entry tree.tree → FaithfulTo E.breaks T.neutral T.value T.joined sources.entry result.0.tree }
+    ensures stock { vec_len stock.new + (length (items result.0.tree) + length (items result.1.tree)) ≡ vec_len stock.old + length (items tree.tree) }
     ensures capacity { vec_capacity stock.new ≡ vec_capacity stock.old }
 {
     let (left, rest) = cut(sources, tree, offset, stock);
@@ -126,22 +125,22 @@ pub fn keep_runs<T: Total>(
 // Puts runs, one after the other, behind the first `offset` places.
 pub fn put_back<E: Element, T: Measure<E>>(
     sources: Sources<'_, E>,
-    tree: Tree<Place, T>,
+    tree: PieceTree<Place, T>,
     offset: usize,
     runs: &[Piece],
     stock: &mut Vec<Box<Node<Place, T>>>,
-) -> Tree<Place, T>
-    requires standing { StandingOver sources tree }
-    requires within { offset ≤ long tree }
-    requires fits { long tree + length (spelled runs.now) < 2 ^ 64 }
+) -> PieceTree<Place, T>
+    requires standing { StandingOver sources tree.tree }
+    requires within { offset ≤ long tree.tree }
+    requires fits { long tree.tree + length (spelled runs.now) < 2 ^ 64 }
     requires inside { HasAll sources runs.now }
     requires spare { length runs.now + 1 ≤ vec_len stock.old }
-    requires room { vec_len stock.old + length (items tree) ≤ vec_capacity stock.old }
-    ensures places { places result ≡ take offset (places tree) ++ (spelled runs.now ++ drop offset (places tree)) }
-    ensures long { long result ≡ long tree + length (spelled runs.now) }
-    ensures standing { StandingOver sources.entry result }
-    ensures faithful { FaithfulTo E.breaks T.neutral T.value T.joined sources.entry tree → FaithfulTo E.breaks T.neutral T.value T.joined sources.entry result }
-    ensures stock { vec_len stock.new + length (items result) ≡ vec_len stock.old + length (items tree) }
+    requires room { vec_len stock.old + length (items tree.tree) ≤ vec_capacity stock.old }
+    ensures places { places result.tree ≡ take offset (places tree.tree) ++ (spelled runs.now ++ drop offset (places tree.tree)) }
+    ensures long { long result.tree ≡ long tree.tree + length (spelled runs.now) }
+    ensures standing { StandingOver sources.entry result.tree }
+    ensures faithful { FaithfulTo E.breaks T.neutral T.value T.joined sources.entry tree.tree → FaithfulTo E.breaks T.neutral T.value T.joined sources.entry result.tree }
+    ensures stock { vec_len stock.new + length (items result.tree) ≡ vec_len stock.old + length (items tree.tree) }
     ensures capacity { vec_capacity stock.new ≡ vec_capacity stock.old }
 {
     let (mut left, right) = cut(sources, tree, offset, stock);

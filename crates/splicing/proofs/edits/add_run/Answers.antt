@@ -8,26 +8,26 @@ use Rattle.splicing.proofs.edits.add_run.Goals as goal
 pub returns-clause-places : goal.returns-clause-places
 returns-clause-places g c =
     let joined = g.T.Total.joined in
-    let tree = c.args.tree in
-    let run = c.join-run.result in
+    let tree = c.args.tree.tree in
+    let run = c.single-run.result.tree in
     let item = c.measure-item.result in
     let m = c.measure-item.ensures in
-    let one : items run ≡ item ∷ [] = c.join-run.ensures.items ∙ ap (λ x. x ∷ []) c.draw-place.ensures.item in
-    places_sewn joined tree run c.sew.result c.sew.ensures.items ∙ ap (λ ps. places tree ++ ps) (places_one joined run item c.args.first c.args.count one m.piece m.length)
+    let one : items run ≡ item ∷ [] = c.single-run.ensures.items ∙ ap (λ x. x ∷ []) c.draw-place.ensures.item in
+    places_sewn joined tree run c.sew.result.tree c.sew.ensures.items ∙ ap (λ ps. places tree ++ ps) (places_one joined run item c.args.first c.args.count one m.piece m.length)
 
 pub returns-clause-standing : goal.returns-clause-standing
 returns-clause-standing g c =
     let joined = g.T.Total.joined in
     let original = length c.args.sources.original.now in
     let added = length c.args.sources.added.now in
-    let run = c.join-run.result in
+    let run = c.single-run.result.tree in
     let item = c.measure-item.result in
     let m = c.measure-item.ensures in
-    let j = c.join-run.ensures in
+    let j = c.single-run.ensures in
     let s = c.sew.ensures in
     let one : items run ≡ item ∷ [] = j.items ∙ ap (λ x. x ∷ []) c.draw-place.ensures.item in
     let fits = inside_is joined original added item c.args.first c.args.count m.piece m.length c.requires.inside in
-    standing_sewn joined original added c.args.tree run c.sew.result s.items s.weighed s.balanced c.requires.standing (standing_one joined original added run item one j.weighed j.balanced fits)
+    standing_sewn joined original added c.args.tree.tree run c.sew.result.tree s.items c.sew.result.weighed c.sew.result.balanced c.requires.standing (standing_one joined original added run item one c.single-run.result.weighed c.single-run.result.balanced fits)
 
 pub returns-clause-faithful : goal.returns-clause-faithful
 returns-clause-faithful g c f =
@@ -37,14 +37,14 @@ returns-clause-faithful g c f =
     let breaks = g.E.Element.breaks in
     let original = c.args.sources.original.now in
     let added = c.args.sources.added.now in
-    let run = c.join-run.result in
+    let run = c.single-run.result.tree in
     let s = c.sew.ensures in
-    let one : items run ≡ c.measure-item.result ∷ [] = c.join-run.ensures.items ∙ ap (λ x. x ∷ []) c.draw-place.ensures.item in
-    faithful_sewn breaks neutral value joined g.met.T.Total.monoid original added c.args.tree run c.sew.result s.items s.summed f
-    (c.join-run.ensures.summed tt tt, subst (AllCarry breaks neutral value joined original added) (sym one) (c.measure-item.ensures.carries, tt))
+    let one : items run ≡ c.measure-item.result ∷ [] = c.single-run.ensures.items ∙ ap (λ x. x ∷ []) c.draw-place.ensures.item in
+    faithful_sewn breaks neutral value joined g.met.T.Total.monoid original added c.args.tree.tree run c.sew.result.tree s.items s.summed f
+    (c.single-run.ensures.summed, subst (AllCarry breaks neutral value joined original added) (sym one) (c.measure-item.ensures.carries, tt))
 
 pub returns-clause-drawn : goal.returns-clause-drawn
 returns-clause-drawn g c =
-    let j = c.join-run.ensures in
+    let j = c.single-run.ensures in
     let s = c.sew.ensures in
-    omega (arith, s.stock, c.draw-place.ensures.len, ap length j.items, ap length s.items, sewn_few g.T.Total.joined (items c.args.tree) (items c.join-run.result))
+    omega (arith, s.stock, c.draw-place.ensures.len, ap length j.items, ap length s.items, sewn_few g.T.Total.joined (items c.args.tree.tree) (items c.single-run.result.tree))

@@ -8,17 +8,17 @@ pub returns-clause-places : goal.returns-clause-places
 returns-clause-places g c =
     let first = c.args.first in
     let k = c.cut-left.ensures in
-    between (stretch first.source first.index c.args.count) (places_sewn g.T.Total.joined c.add_run-left.result c.cut-left.result.1 c.sew.result c.sew.ensures.items) c.add_run-left.ensures.places k.front k.back
+    between (stretch first.source first.index c.args.count) (places_sewn g.T.Total.joined c.add_run-left.result.tree c.cut-left.result.1.tree c.sew.result.tree c.sew.ensures.items) c.add_run-left.ensures.places k.front k.back
 
 pub returns-clause-standing : goal.returns-clause-standing
 returns-clause-standing g c =
     let sources = c.args.sources in
     let s = c.sew.ensures in
-    standing_sewn g.T.Total.joined (length sources.original.now) (length sources.added.now) c.add_run-left.result c.cut-left.result.1 c.sew.result s.items s.weighed s.balanced c.add_run-left.ensures.standing c.cut-left.ensures.standing.1
+    standing_sewn g.T.Total.joined (length sources.original.now) (length sources.added.now) c.add_run-left.result.tree c.cut-left.result.1.tree c.sew.result.tree s.items c.sew.result.weighed c.sew.result.balanced c.add_run-left.ensures.standing c.cut-left.ensures.standing.1
 
 pub returns-clause-faithful : goal.returns-clause-faithful
 returns-clause-faithful g c f =
     let sources = c.args.sources in
     let s = c.sew.ensures in
     let parts = c.cut-left.ensures.faithful f in
-    faithful_sewn g.E.Element.breaks g.T.Total.neutral g.T.Measure.value g.T.Total.joined g.met.T.Total.monoid sources.original.now sources.added.now c.add_run-left.result c.cut-left.result.1 c.sew.result s.items s.summed (c.add_run-left.ensures.faithful parts.0) parts.1
+    faithful_sewn g.E.Element.breaks g.T.Total.neutral g.T.Measure.value g.T.Total.joined g.met.T.Total.monoid sources.original.now sources.added.now c.add_run-left.result.tree c.cut-left.result.1.tree c.sew.result.tree s.items s.summed (c.add_run-left.ensures.faithful parts.0) parts.1

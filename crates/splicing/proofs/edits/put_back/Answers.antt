@@ -26,7 +26,7 @@ loop-run-preserved g c =
     let a = c.add_run-left.ensures in
     let within = c.loop-run-test.true in
     record {
-      places_are = run_added (places c.cut-left.result.0) runs i within inv.places_are a.places;
+      places_are = run_added (places c.cut-left.result.0.tree) runs i within inv.places_are a.places;
       long_is = omega (arith, a.long, inv.long_is, length_more runs i within);
       standing = a.standing;
       faithful = λ f. a.faithful (inv.faithful f);
@@ -40,18 +40,18 @@ returns-clause-places g c =
     let runs = c.args.runs.now in
     let k = c.cut-left.ensures in
     let all = take_all c.loop-run.run-index runs c.loop-run-test.false in
-    let filled = c.loop-run.invariant.places_are ∙ ap (λ rs. places c.cut-left.result.0 ++ spelled rs) all in
-    between (spelled runs) (places_sewn g.T.Total.joined c.loop-run.left c.cut-left.result.1 c.sew.result c.sew.ensures.items) filled k.front k.back
+    let filled = c.loop-run.invariant.places_are ∙ ap (λ rs. places c.cut-left.result.0.tree ++ spelled rs) all in
+    between (spelled runs) (places_sewn g.T.Total.joined c.loop-run.left.tree c.cut-left.result.1.tree c.sew.result.tree c.sew.ensures.items) filled k.front k.back
 
 pub returns-clause-standing : goal.returns-clause-standing
 returns-clause-standing g c =
     let sources = c.args.sources in
     let s = c.sew.ensures in
-    standing_sewn g.T.Total.joined (length sources.original.now) (length sources.added.now) c.loop-run.left c.cut-left.result.1 c.sew.result s.items s.weighed s.balanced c.loop-run.invariant.standing c.cut-left.ensures.standing.1
+    standing_sewn g.T.Total.joined (length sources.original.now) (length sources.added.now) c.loop-run.left.tree c.cut-left.result.1.tree c.sew.result.tree s.items c.sew.result.weighed c.sew.result.balanced c.loop-run.invariant.standing c.cut-left.ensures.standing.1
 
 pub returns-clause-faithful : goal.returns-clause-faithful
 returns-clause-faithful g c f =
     let sources = c.args.sources in
     let s = c.sew.ensures in
     let parts = c.cut-left.ensures.faithful f in
-    faithful_sewn g.E.Element.breaks g.T.Total.neutral g.T.Measure.value g.T.Total.joined g.met.T.Total.monoid sources.original.now sources.added.now c.loop-run.left c.cut-left.result.1 c.sew.result s.items s.summed (c.loop-run.invariant.faithful parts.0) parts.1
+    faithful_sewn g.E.Element.breaks g.T.Total.neutral g.T.Measure.value g.T.Total.joined g.met.T.Total.monoid sources.original.now sources.added.now c.loop-run.left.tree c.cut-left.result.1.tree c.sew.result.tree s.items s.summed (c.loop-run.invariant.faithful parts.0) parts.1
