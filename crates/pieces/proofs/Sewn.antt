@@ -17,7 +17,7 @@ use Rattle.pieces.proofs.Breaks.{count_append}
 use Rattle.pieces.proofs.SourceParts.{part_append}
 use Rattle.pieces.proofs.Spreads.{stretch_append}
 
-same_true : (a b : Source) → same_source a b ≡ true → a ≡ b
+pub same_true : (a b : Source) → same_source a b ≡ true → a ≡ b
 same_true Original Original e = refl
 same_true Original Added e = absurd (false≢true e)
 same_true Added Original e = absurd (false≢true e)

@@ -1,30 +1,31 @@
 -- Numbers of pieces of parts of a text, and of a text with a run put in. Assumes nothing.
 use Rattle.std.proofs.Common.{◌≡◌, ℕ, ◌+◌, ◌-◌, ◌<◌, ◌≤◌, List, [], ◌∷◌, ◌++◌, length, take, drop, sym, ap, ◌∙◌, arith, length-drop, take-append-drop, length-take, take-add}
-use Rattle.std.proofs.lemmas.List.{drop_all}
+use Rattle.std.proofs.lemmas.List.{drop_all, drop-take}
 use Rattle.ledger.specs.Places.{pieces_of, place, stretch}
 use Rattle.ledger.specs.declared.words.Place.{Place}
 use Rattle.ledger.specs.declared.words.Source.{Source}
 use Rattle.nodes.specs.declared.types.Tree.{Tree}
 use Rattle.nodes.specs.Trees.{items, long, placed, Weighed}
 use Rattle.pieces.specs.Spread.{places, Apart}
-use Rattle.seeking.proofs.Standing.{long_is, placed_is}
+use Rattle.pieces.proofs.Spreads.{places_length}
+use Rattle.seeking.proofs.Standing.{placed_is}
 use Rattle.reading.specs.Joints.{joint}
 use Rattle.reading.proofs.Counting.{count_joint, joint_few, joint_first, joint_last, joint_take, pieces_few}
 use Rattle.reading.proofs.Longest.{all_some, count_items, one_piece}
-use Rattle.reading.proofs.Places.{length_spread, stretch_first, stretch_last}
+use Rattle.reading.proofs.Places.{stretch_first, stretch_last}
 
--- the place at an offset is the last of those up to it, and the first of those from it on
-pub joint_behind : (ps : List Place) (o x : ℕ) (p : Place) (ys : List Place) → drop o ps ≡ p ∷ drop (o + 1) ps → x ≡ o + 1 → joint (take x ps) ys ≡ joint (p ∷ []) ys
-joint_behind ps o x p ys h e =
-    let cut : take x ps ≡ take o ps ++ p ∷ [] = ap (λ k. take k ps) e ∙ take-add o 1 ps ∙ ap (λ qs. take o ps ++ take 1 qs) h in
-    ap (λ xs. joint xs ys) cut ∙ joint_last (take o ps) p ys
-
-pub joint_ahead : (xs ps : List Place) (o : ℕ) (p : Place) → drop o ps ≡ p ∷ drop (o + 1) ps → joint xs (drop o ps) ≡ joint xs (p ∷ [])
-joint_ahead xs ps o p h = ap (joint xs) h ∙ joint_first xs p (drop (o + 1) ps)
+-- the place at an offset is the last of those up to it
+pub last_place : (ps : List Place) (o x : ℕ) (p : Place) → drop o ps ≡ p ∷ drop (o + 1) ps → x ≡ o + 1 → p ∷ [] ≡ drop (x - 1) (take x ps)
+last_place ps o x p at e =
+    let before : x - 1 ≡ o = omega (arith, e) in
+    sym ((λ k. drop (before k) (take (e k) ps)) ∙ drop-take o 1 ps ∙ ap (take 1) at)
 
 module _ {T : Type 0} (tree : Tree Place T) (w : Weighed tree) where
   pub long_places : length (places tree) ≡ long tree
-  long_places = length_spread (items tree) ∙ sym (long_is tree w)
+  long_places = places_length tree w
+
+  pub front_long : (x : ℕ) → x ≤ long tree → length (take x (places tree)) ≡ x
+  front_long x l = let cut = length-take x (places tree) in omega (arith, cut, long_places, l)
 
   pub none_behind : (x : ℕ) → x ≡ long tree → drop x (places tree) ≡ []
   none_behind x e = let h = long_places in drop_all x (places tree) (omega (arith, h, e))

@@ -1,10 +1,18 @@
 -- Numbers of pieces where lists of places meet. Assumes nothing.
-use Rattle.std.proofs.Common.{◌≡◌, ℕ, zero, suc, ◌+◌, ◌<◌, ◌≤◌, Bool, true, false, cond, ◌&&◌, eqb, List, [], ◌∷◌, ◌++◌, length, take, sym, refl, ap, ◌∙◌, arith}
+use Rattle.std.proofs.Common.{◌≡◌, ℕ, zero, suc, ◌+◌, ◌-◌, ◌<◌, ◌≤◌, Bool, true, false, cond, ◌&&◌, eqb, List, [], ◌∷◌, ◌++◌, length, take, drop, sym, refl, ap, ◌∙◌, arith}
+use lib.Seq.{drop-nil}
+use mir.Val.{bool_byte}
+use Rattle.std.specs.Bool.{if◌then◌else◌}
 use Rattle.std.proofs.lemmas.Bool.{cond_both}
 use Rattle.ledger.specs.Places.{before_pieces, piece, pieces_of, same_source}
 use Rattle.ledger.specs.declared.words.Piece.{Piece}
 use Rattle.ledger.specs.declared.words.Place.{Place}
 use Rattle.reading.specs.Joints.{goes_on, joint}
+
+-- what a truth value is as a number
+pub as_number : (b : Bool) → bool_byte b ≡ (if b then 1 else 0)
+as_number true = refl
+as_number false = refl
 
 -- the first of some pieces begins at a place
 pub record Begins (p : Place) (pieces : List Piece) : Type 0 where
@@ -61,7 +69,7 @@ joint_one (x ∷ next ∷ xs) ys = joint_one (next ∷ xs) ys
 pub count_cut : (xs ys : List Place) → length (pieces_of xs) + length (pieces_of ys) ≤ length (pieces_of (xs ++ ys)) + 1
 count_cut xs ys = let h = count_joint xs ys in let one = joint_one xs ys in omega (arith, h, one)
 
--- no places go on from none, nor to none
+-- no places go on from none
 pub joint_few : (xs ys : List Place) → joint xs ys ≤ length (pieces_of xs)
 joint_few [] ys = omega arith
 joint_few (x ∷ xs) ys =
@@ -69,16 +77,19 @@ joint_few (x ∷ xs) ys =
     let one = joint_one (x ∷ xs) ys in
     omega (arith, some, one)
 
-pub joint_none : (xs : List Place) → joint xs [] ≡ 0
-joint_none [] = refl
-joint_none (x ∷ []) = refl
-joint_none (x ∷ next ∷ xs) = joint_none (next ∷ xs)
-
 -- only the last place before and the first behind count
 pub joint_last : (xs : List Place) (x : Place) (ys : List Place) → joint (xs ++ x ∷ []) ys ≡ joint (x ∷ []) ys
 joint_last [] x ys = refl
 joint_last (y ∷ []) x ys = refl
 joint_last (y ∷ next ∷ xs) x ys = joint_last (next ∷ xs) x ys
+
+-- the places but the last of some change nothing
+pub joint_end : (xs ys : List Place) (n : ℕ) → length xs ≡ n → joint (drop (n - 1) xs) ys ≡ joint xs ys
+joint_end [] ys n e = ap (λ l. joint l ys) (drop-nil (n - 1))
+joint_end (x ∷ []) ys n e = let none : n - 1 ≡ 0 = omega (arith, e) in ap (λ k. joint (drop k (x ∷ [])) ys) none
+joint_end (x ∷ next ∷ xs) ys n e =
+    let more : n - 1 ≡ suc (n - 1 - 1) = omega (arith, e) in
+    ap (λ k. joint (drop k (x ∷ next ∷ xs)) ys) more ∙ joint_end (next ∷ xs) ys (n - 1) (omega (arith, e))
 
 pub joint_first : (xs : List Place) (y : Place) (ys : List Place) → joint xs (y ∷ ys) ≡ joint xs (y ∷ [])
 joint_first [] y ys = refl

@@ -1,11 +1,12 @@
 -- Lines by the breaks of a list: where they begin, how long they are, how many there are. Assumes nothing.
-use Rattle.std.proofs.Common.{◌≡◌, ℕ, zero, suc, ◌+◌, ◌-◌, ◌<◌, ◌≤◌, Bool, true, false, cond, List, [], ◌∷◌, ◌++◌, length, get_or, take, drop, sym, refl, ap, ◌∙◌, arith, length-append, take-append-drop, take-suc}
+use Rattle.std.proofs.Common.{◌≡◌, ℕ, zero, suc, ◌+◌, ◌-◌, ◌<◌, ◌≤◌, Bool, true, false, cond, List, [], ◌∷◌, ◌++◌, length, get_or, take, drop, Some, None, Option, sym, refl, ap, ◌∙◌, arith, length-append, take-append-drop, take-suc}
 use lib.Seq.{take-nil}
-use Rattle.std.proofs.lemmas.List.{append_assoc, drop_all, drop_more}
-use Rattle.std.specs.List.{flat_map}
+use Rattle.std.proofs.lemmas.List.{append_assoc, drop_all}
+use Rattle.std.specs.List.{enumerate_from, filter, flat_map, slice_get}
+use Rattle.std.specs.Option.{MatchOption}
 use Rattle.element.specs.Lines.{onto, lines}
 use Rattle.pieces.specs.Faithful.{count_breaks}
-use Rattle.pieces.proofs.Breaks.{count_append}
+use Rattle.pieces.proofs.Breaks.{count_append, count_first}
 use Rattle.reading.specs.LineParts.{behind}
 
 -- the elements of some lines together
@@ -62,7 +63,9 @@ module _ {E : Type 0} (breaks : E → Bool) where
   -- up to an element there is a line for each break before it, and its own
   pub lines_count : (xs : List E) (e : E) → length (lines breaks (xs ++ e ∷ [])) ≡ count_breaks breaks xs + 1
   lines_count [] e = let h = first_line (breaks e) e in omega (arith, h)
-  lines_count (x ∷ xs) e = count_step (breaks x) x (lines breaks (xs ++ e ∷ [])) (count_breaks breaks xs) (lines_count xs e)
+  lines_count (x ∷ xs) e =
+      let step = count_step (breaks x) x (lines breaks (xs ++ e ∷ [])) (count_breaks breaks xs) (lines_count xs e) in
+      omega (arith, step, count_first breaks x xs)
 
   -- the lines up to an element of a second part
   pub lines_upto : (xs ys : List E) (n : ℕ) → n < length ys → length (lines breaks (xs ++ take (suc n) ys)) ≡ count_breaks breaks xs + count_breaks breaks (take n ys) + 1
@@ -100,7 +103,7 @@ module _ {E : Type 0} (breaks : E → Bool) where
       omega (arith, q)
   behind_past (x ∷ xs) ys zero k e = omega (arith, e)
   behind_past (x ∷ xs) ys (suc m) k e =
-      let h = past_step (breaks x) m k (count_breaks breaks xs) (length xs + behind breaks (suc k) ys) (behind breaks m (xs ++ ys)) (behind breaks (suc m) (xs ++ ys)) e (behind_past xs ys m k) (behind_past xs ys (suc m) k) in
+      let h = past_step (breaks x) m k (count_breaks breaks xs) (length xs + behind breaks (suc k) ys) (behind breaks m (xs ++ ys)) (behind breaks (suc m) (xs ++ ys)) (omega (arith, e, count_first breaks x xs)) (behind_past xs ys m k) (behind_past xs ys (suc m) k) in
       omega (arith, h)
 
   within_step : (b : Bool) (m n here more here' more' : ℕ) → suc m ≤ cond b 1 0 + n → (m ≤ n → here ≡ here') → (suc m ≤ n → more ≡ more') → suc (cond b here more) ≡ suc (cond b here' more')
@@ -113,7 +116,7 @@ module _ {E : Type 0} (breaks : E → Bool) where
   behind_within [] ys (suc m) e = omega (arith, e)
   behind_within (x ∷ xs) ys zero e = refl
   behind_within (x ∷ xs) ys (suc m) e =
-      within_step (breaks x) m (count_breaks breaks xs) (behind breaks m (xs ++ ys)) (behind breaks (suc m) (xs ++ ys)) (behind breaks m xs) (behind breaks (suc m) xs) e (behind_within xs ys m) (behind_within xs ys (suc m))
+      within_step (breaks x) m (count_breaks breaks xs) (behind breaks m (xs ++ ys)) (behind breaks (suc m) (xs ++ ys)) (behind breaks m xs) (behind breaks (suc m) xs) (omega (arith, e, count_first breaks x xs)) (behind_within xs ys m) (behind_within xs ys (suc m))
 
   all_step : (b : Bool) (m n l here more : ℕ) → cond b 1 0 + n < suc m → (n < m → here ≡ l) → (n < suc m → more ≡ l) → suc (cond b here more) ≡ suc l
   all_step true m n l here more e h g = ap suc (h (omega (arith, e)))
@@ -125,21 +128,34 @@ module _ {E : Type 0} (breaks : E → Bool) where
   behind_all [] (suc m) e = refl
   behind_all (x ∷ xs) zero e = omega (arith, e)
   behind_all (x ∷ xs) (suc m) e =
-      all_step (breaks x) m (count_breaks breaks xs) (length xs) (behind breaks m xs) (behind breaks (suc m) xs) e (behind_all xs m) (behind_all xs (suc m))
+      all_step (breaks x) m (count_breaks breaks xs) (length xs) (behind breaks m xs) (behind breaks (suc m) xs) (omega (arith, e, count_first breaks x xs)) (behind_all xs m) (behind_all xs (suc m))
 
-  next_break : (b : Bool) (here more : ℕ) → true ≡ b → suc (cond b here more) ≡ suc here
-  next_break b here more is = ap (λ t. suc (cond t here more)) (sym is)
+  few_step : (b : Bool) (here more l : ℕ) → here ≤ l → more ≤ l → suc (cond b here more) ≤ suc l
+  few_step true here more l h g = omega (arith, h)
+  few_step false here more l h g = omega (arith, g)
 
-  next_plain : (b : Bool) (here more : ℕ) → false ≡ b → suc (cond b here more) ≡ suc more
-  next_plain b here more is = ap (λ t. suc (cond t here more)) (sym is)
+  -- no more elements than there are
+  pub behind_few : (n : ℕ) (xs : List E) → behind breaks n xs ≤ length xs
+  behind_few zero xs = omega arith
+  behind_few (suc k) [] = omega arith
+  behind_few (suc k) (x ∷ xs) =
+      few_step (breaks x) (behind breaks k xs) (behind breaks (suc k) xs) (length xs) (behind_few k xs) (behind_few (suc k) xs)
 
-  opened : (xs : List E) (i k : ℕ) (x : E) → i < length xs → x ≡ get_or xs i x → behind breaks (suc k) (drop i xs) ≡ behind breaks (suc k) (x ∷ drop (i + 1) xs)
-  opened xs i k x within read = ap (behind breaks (suc k)) (drop_more xs i x within ∙ ap (λ y. y ∷ drop (i + 1) xs) (sym read))
+  -- among numbered elements, the one of a number is the break of that number, counted from 0
+  abbrev NumberedAs : List (ℕ × E) → ℕ → ℕ → List E → Type 0
+  NumberedAs ps k n xs =
+      MatchOption (slice_get ps n) (behind breaks (suc n) xs ≡ length xs) (λ p. p.0 + 1 ≡ k + behind breaks (suc n) xs)
 
-  -- one element further, over a break
-  pub over_break : (xs : List E) (i k : ℕ) (x : E) → i < length xs → x ≡ get_or xs i x → true ≡ breaks x → behind breaks (suc k) (drop i xs) ≡ suc (behind breaks k (drop (i + 1) xs))
-  over_break xs i k x within read is = opened xs i k x within read ∙ next_break (breaks x) (behind breaks k (drop (i + 1) xs)) (behind breaks (suc k) (drop (i + 1) xs)) is
+  further : (o : Option (ℕ × E)) (k v l : ℕ) → MatchOption o (v ≡ l) (λ p. p.0 + 1 ≡ k + 1 + v) → MatchOption o (suc v ≡ suc l) (λ p. p.0 + 1 ≡ k + suc v)
+  further None k v l h = ap suc h
+  further (Some p) k v l h = omega (arith, h)
 
-  -- one element further, over any other
-  pub over_plain : (xs : List E) (i k : ℕ) (x : E) → i < length xs → x ≡ get_or xs i x → false ≡ breaks x → behind breaks (suc k) (drop i xs) ≡ suc (behind breaks (suc k) (drop (i + 1) xs))
-  over_plain xs i k x within read is = opened xs i k x within read ∙ next_plain (breaks x) (behind breaks k (drop (i + 1) xs)) (behind breaks (suc k) (drop (i + 1) xs)) is
+  nth_step : (b : Bool) (x : E) (xs : List E) (ps : List (ℕ × E)) (k n : ℕ) → ((m : ℕ) → NumberedAs ps (k + 1) m xs) → MatchOption (slice_get (cond b ((k, x) ∷ ps) ps) n) (suc (cond b (behind breaks n xs) (behind breaks (suc n) xs)) ≡ suc (length xs)) (λ p. p.0 + 1 ≡ k + suc (cond b (behind breaks n xs) (behind breaks (suc n) xs)))
+  nth_step true x xs ps k zero h = omega arith
+  nth_step true x xs ps k (suc m) h = further (slice_get ps m) k (behind breaks (suc m) xs) (length xs) (h m)
+  nth_step false x xs ps k n h = further (slice_get ps n) k (behind breaks (suc n) xs) (length xs) (h n)
+
+  pub nth_break : (k n : ℕ) (xs : List E) → NumberedAs (filter (λ p. breaks p.1) (enumerate_from k xs)) k n xs
+  nth_break k n [] = refl
+  nth_break k n (x ∷ xs) =
+      nth_step (breaks x) x xs (filter (λ p. breaks p.1) (enumerate_from (k + 1) xs)) k n (λ m. nth_break (k + 1) m xs)

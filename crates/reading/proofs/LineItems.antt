@@ -1,17 +1,17 @@
 -- The elements of some items of a tree of pieces. Assumes nothing.
-use Rattle.std.proofs.Common.{◌≡◌, ◌+◌, ◌≤◌, Bool, List, [], ◌∷◌, ◌++◌, length, sym, refl, ap, ◌∙◌, arith, length-append}
+use Rattle.std.proofs.Common.{◌≡◌, Bool, List, [], ◌∷◌, ◌++◌, length, sym, refl, ap, ◌∙◌, arith, length-append}
 use Rattle.ledger.specs.Places.{elements_at, stretch}
 use Rattle.ledger.specs.declared.words.Place.{Place}
 use Rattle.nodes.specs.declared.types.Item.{Item}
 use Rattle.nodes.specs.declared.types.Tree.{Tree}
-use Rattle.nodes.specs.Trees.{items, long, broken, Weighed}
-use Rattle.pieces.specs.Faithful.{count_breaks, source_part, elements, Carries, AllCarry}
-use Rattle.pieces.specs.Spread.{spread, size_of, Inside}
+use Rattle.nodes.specs.Trees.{items, broken, Weighed}
+use Rattle.pieces.specs.Faithful.{count_breaks, source_part, elements, AllCarry}
+use Rattle.pieces.specs.Spread.{spread, Inside}
 use Rattle.pieces.proofs.Breaks.{count_append}
 use Rattle.pieces.proofs.Elements.{elements_append, elements_stretch, part_long}
 use Rattle.pieces.proofs.Spreads.{spread_append}
 use Rattle.seeking.specs.Seeks.{elements_in, breaks_in}
-use Rattle.seeking.proofs.Standing.{long_is, broken_is}
+use Rattle.seeking.proofs.Standing.{broken_is}
 
 module _ {E : Type 0} (original added : List E) where
   module _ {T : Type 0} where
@@ -37,10 +37,6 @@ module _ {E : Type 0} (original added : List E) where
         let a = length-append part (spelt xs) in
         omega (arith, p, more, f, a)
 
-    pub inside_split : (xs : List (Item Place T)) (i : Item Place T) (ys : List (Item Place T)) → Inside (length original) (length added) (xs ++ i ∷ ys) → Inside (length original) (length added) xs × (i.piece.index + i.length ≤ size_of (length original) (length added) i.piece.source)
-    inside_split [] i ys h = (tt, h.0)
-    inside_split (x ∷ xs) i ys h = let s = inside_split xs i ys h.1 in ((h.0, s.0), s.1)
-
     module _ (breaks : E → Bool) (neutral : T) (value : E → T) (joined : T → T → T) where
       -- as many breaks as the items say
       pub spelt_breaks : (xs : List (Item Place T)) → AllCarry breaks neutral value joined original added xs → count_breaks breaks (spelt xs) ≡ breaks_in xs
@@ -53,14 +49,6 @@ module _ {E : Type 0} (original added : List E) where
           let a = count_append breaks part (spelt xs) in
           omega (arith, p, more, f, a)
 
-      pub carry_split : (xs : List (Item Place T)) (i : Item Place T) (ys : List (Item Place T)) → AllCarry breaks neutral value joined original added (xs ++ i ∷ ys) → AllCarry breaks neutral value joined original added xs × Carries breaks neutral value joined original added i
-      carry_split [] i ys h = (tt, h.0)
-      carry_split (x ∷ xs) i ys h = let s = carry_split xs i ys h.1 in ((h.0, s.0), s.1)
-
-    -- a tree has as many elements as it says
-    pub tree_long : (tree : Tree Place T) → Weighed tree → Inside (length original) (length added) (items tree) → length (elements original added tree) ≡ long tree
-    tree_long tree w h = spelt_long (items tree) h ∙ sym (long_is tree w)
-
-    -- and as many breaks
+    -- a tree has as many breaks as it says
     pub tree_breaks : (breaks : E → Bool) (neutral : T) (value : E → T) (joined : T → T → T) (tree : Tree Place T) → Weighed tree → AllCarry breaks neutral value joined original added (items tree) → count_breaks breaks (elements original added tree) ≡ broken tree
     tree_breaks breaks neutral value joined tree w h = spelt_breaks breaks neutral value joined (items tree) h ∙ sym (broken_is tree w)

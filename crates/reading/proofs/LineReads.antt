@@ -1,49 +1,53 @@
 -- What is found in a tree of pieces, by its elements. Assumes nothing.
-use Rattle.std.proofs.Common.{◌≡◌, ℕ, suc, ◌+◌, ◌-◌, ◌<◌, ◌≤◌, Bool, true, false, cond, ◌||◌, eqb, ltb, List, ◌∷◌, ◌++◌, length, take, drop, Some, None, Option, sym, ap, ◌∙◌, subst, arith, take-take, le-ltb, ne_eqb}
+use Rattle.std.proofs.Common.{◌≡◌, ℕ, suc, ◌+◌, ◌-◌, ◌<◌, ◌≤◌, Bool, false, cond, ◌||◌, eqb, ltb, List, ◌∷◌, ◌++◌, length, take, drop, Some, None, Option, sym, ap, ◌∙◌, subst, arith, take-take, le-ltb, ne_eqb}
 use lib.Seq.{take-append-add, take-append-le}
 use Rattle.element.specs.Lines.{lines}
 use Rattle.ledger.specs.Places.{source_list}
 use Rattle.ledger.specs.declared.words.Place.{Place}
 use Rattle.nodes.specs.declared.types.Tree.{Tree}
 use Rattle.nodes.specs.Trees.{items, long, broken, Weighed}
-use Rattle.pieces.specs.Faithful.{count_breaks, source_part, elements, AllCarry}
+use Rattle.pieces.specs.Faithful.{count_breaks, source_part, elements, AllCarry, Faithful}
 use Rattle.pieces.specs.Spread.{size_of, Inside}
 use Rattle.seeking.specs.declared.types.Found.{Found}
 use Rattle.seeking.specs.Seeks.{Stands}
 use Rattle.reading.specs.LineParts.{behind, line_start, line_length, line_found}
 use Rattle.reading.proofs.LineFacts.{lines_all, lines_behind, line_long, lines_upto, behind_past, behind_within, behind_all}
 use Rattle.pieces.proofs.Elements.{part_long}
-use Rattle.reading.proofs.LineItems.{spelt, spelt_append, spelt_first, spelt_long, inside_split, spelt_breaks, carry_split, tree_long, tree_breaks}
+use Rattle.pieces.proofs.Spreads.{carry_back, carry_front, inside_back, inside_front}
+use Rattle.reading.proofs.LineItems.{spelt, spelt_append, spelt_first, spelt_long, spelt_breaks, tree_breaks}
+use Rattle.reading.proofs.PartTotals.{elements_long}
 
-module _ {E T : Type 0} (original added : List E) (neutral : T) (joined : T → T → T) (tree : Tree Place T) (within : Inside (length original) (length added) (items tree)) where
-  module _ (found : Found Place T) (stands : Stands neutral joined tree found) where
-    -- the pieces before the found one, and it itself, lie in their sources
-    sides : Inside (length original) (length added) stands.front × (found.item.piece.index + found.item.length ≤ size_of (length original) (length added) found.item.piece.source)
-    sides = inside_split original added stands.front found.item stands.back (subst (Inside (length original) (length added)) stands.parts within)
+module _ {E T : Type 0} (original added : List E) {neutral : T} {joined : T → T → T} {tree : Tree Place T} (within : Inside (length original) (length added) (items tree)) where
+  module _ {found : Found Place T} (stands : Stands neutral joined tree found) where
+    -- the pieces of the tree around the found one lie in their sources
+    all_inside : Inside (length original) (length added) (stands.front ++ found.item ∷ stands.back)
+    all_inside = subst (Inside (length original) (length added)) stands.parts within
 
     -- the found piece lies in its source
     pub found_inside : found.item.piece.index + found.item.length ≤ size_of (length original) (length added) found.item.piece.source
-    found_inside = sides.1
+    found_inside = (inside_back (length original) (length added) stands.front (found.item ∷ stands.back) all_inside).0
 
     -- the elements before the found piece are as many as is said
     pub front_long : length (spelt original added stands.front) ≡ found.before.length
-    front_long = spelt_long original added stands.front sides.0 ∙ sym stands.elements
+    front_long =
+        spelt_long original added stands.front (inside_front (length original) (length added) stands.front (found.item ∷ stands.back) all_inside) ∙ sym stands.elements
 
     -- the elements before the found piece, its own, and the others
     pub found_parts : elements original added tree ≡ spelt original added stands.front ++ (source_part original added found.item.piece found.item.length ++ spelt original added stands.back)
     found_parts =
         ap (spelt original added) stands.parts ∙ spelt_append original added stands.front (found.item ∷ stands.back) ∙ ap (λ xs. spelt original added stands.front ++ xs) (spelt_first original added found.item stands.back)
 
-    module _ (breaks : E → Bool) (value : E → T) (carry : AllCarry breaks neutral value joined original added (items tree)) where
+    module _ (breaks : E → Bool) (value : E → T) (faithful : Faithful breaks neutral value joined original added tree) where
+      all_carry : AllCarry breaks neutral value joined original added (stands.front ++ found.item ∷ stands.back)
+      all_carry = subst (AllCarry breaks neutral value joined original added) stands.parts faithful.1
+
       -- the breaks before the found piece, and its own
       carried : count_breaks breaks (spelt original added stands.front) ≡ found.before.breaks
       carried =
-          let s = carry_split original added breaks neutral value joined stands.front found.item stands.back (subst (AllCarry breaks neutral value joined original added) stands.parts carry) in
-          spelt_breaks original added breaks neutral value joined stands.front s.0 ∙ sym stands.breaks
+          spelt_breaks original added breaks neutral value joined stands.front (carry_front breaks neutral value joined original added stands.front (found.item ∷ stands.back) all_carry) ∙ sym stands.breaks
 
       here : found.item.breaks ≡ count_breaks breaks (source_part original added found.item.piece found.item.length)
-      here =
-          (carry_split original added breaks neutral value joined stands.front found.item stands.back (subst (AllCarry breaks neutral value joined original added) stands.parts carry)).1.0
+      here = (carry_back breaks neutral value joined original added stands.front (found.item ∷ stands.back) all_carry).0.0
 
       -- the lines up to the found element
       pub found_line : (offset : ℕ) → found.before.length + found.inner ≡ offset → found.inner < found.item.length → found.before.breaks + count_breaks breaks (source_part original added found.item.piece found.inner) + 1 ≡ length (lines breaks (take (suc offset) (elements original added tree)))
@@ -79,35 +83,22 @@ module _ {E T : Type 0} (original added : List E) (neutral : T) (joined : T → 
           let inside = behind_within breaks part back (suc found.inner) (omega (arith, own, inner)) in
           omega (arith, long, whole, past, inside)
 
-  module _ (weighed : Weighed tree) (breaks : E → Bool) (value : E → T) (carry : AllCarry breaks neutral value joined original added (items tree)) where
-    tree_lines : (offset : ℕ) (e : E) → long tree ≡ offset + 1 → drop offset (elements original added tree) ≡ e ∷ drop (offset + 1) (elements original added tree) → length (lines breaks (elements original added tree)) + cond (breaks e) 1 0 ≡ broken tree + 1
-    tree_lines offset e all last =
-        let size = tree_long original added tree weighed within in
-        let count = tree_breaks original added breaks neutral value joined tree weighed carry in
-        let h = lines_all breaks (elements original added tree) offset e (omega (arith, size, all)) last in
-        omega (arith, h, count)
+module _ {E T : Type 0} (breaks : E → Bool) (neutral : T) (value : E → T) (joined : T → T → T) (original added : List E) (tree : Tree Place T) (weighed : Weighed tree) (within : Inside (length original) (length added) (items tree)) (faithful : Faithful breaks neutral value joined original added tree) where
+  -- as many lines as breaks, and one more where the last element is none
+  pub tree_lines : (offset : ℕ) (e : E) → long tree ≡ offset + 1 → drop offset (elements original added tree) ≡ e ∷ drop (offset + 1) (elements original added tree) → length (lines breaks (elements original added tree)) + cond (breaks e) 1 0 ≡ broken tree + 1
+  tree_lines offset e all last =
+      let size = elements_long original added tree weighed within in
+      let count = tree_breaks original added breaks neutral value joined tree weighed faithful.1 in
+      let h = lines_all breaks (elements original added tree) offset e (omega (arith, size, all)) last in
+      omega (arith, h, count)
 
-    -- as many lines as breaks where the last element is one
-    pub lines_closed : (offset : ℕ) (e : E) → long tree ≡ offset + 1 → drop offset (elements original added tree) ≡ e ∷ drop (offset + 1) (elements original added tree) → true ≡ breaks e → broken tree ≡ length (lines breaks (elements original added tree))
-    lines_closed offset e all last is =
-        let one : ◌≡◌ {A = ℕ} 1 (cond (breaks e) 1 0) = ap (λ b. cond b 1 0) is in
-        let h = tree_lines offset e all last in
-        omega (arith, h, one)
-
-    -- and one more where it is none
-    pub lines_open : (offset : ℕ) (e : E) → long tree ≡ offset + 1 → drop offset (elements original added tree) ≡ e ∷ drop (offset + 1) (elements original added tree) → false ≡ breaks e → broken tree + 1 ≡ length (lines breaks (elements original added tree))
-    lines_open offset e all last is =
-        let none : ◌≡◌ {A = ℕ} 0 (cond (breaks e) 1 0) = ap (λ b. cond b 1 0) is in
-        let h = tree_lines offset e all last in
-        omega (arith, h, none)
-
-    -- where there are fewer breaks, the offset behind all elements
-    pub tree_start : (number : ℕ) → broken tree < number → long tree ≡ behind breaks number (elements original added tree)
-    tree_start number few =
-        let size = tree_long original added tree weighed within in
-        let count = tree_breaks original added breaks neutral value joined tree weighed carry in
-        let h = behind_all breaks (elements original added tree) number (omega (arith, count, few)) in
-        omega (arith, h, size)
+  -- where there are fewer breaks, the offset behind all elements
+  pub tree_start : (number : ℕ) → broken tree < number → long tree ≡ behind breaks number (elements original added tree)
+  tree_start number few =
+      let size = elements_long original added tree weighed within in
+      let count = tree_breaks original added breaks neutral value joined tree weighed faithful.1 in
+      let h = behind_all breaks (elements original added tree) number (omega (arith, count, few)) in
+      omega (arith, h, size)
 
 pick : (a b : Bool) (x : Option (ℕ × ℕ)) → a ≡ false → b ≡ false → x ≡ cond (a || b) None x
 pick a b x p q = sym (ap (λ t. cond (t || b) None x) p ∙ ap (λ t. cond t None x) q)

@@ -1,9 +1,8 @@
 -- Items that stand apart are the longest stretches of their places. Assumes nothing.
-use Rattle.std.proofs.Common.{◌≡◌, ℕ, zero, suc, ◌+◌, ◌-◌, ◌<◌, ◌≤◌, Bool, true, false, cond, ◌&&◌, eqb, List, [], ◌∷◌, ◌++◌, map, length, take, drop, sym, refl, ap, ◌∙◌, subst, append-nil, arith, length-append, eq-eqb, eqb-true}
-use borrow.Author.Tests.{clash}
+use Rattle.std.proofs.Common.{◌≡◌, ℕ, zero, suc, ◌+◌, ◌-◌, ◌<◌, ◌≤◌, true, false, cond, ◌&&◌, eqb, List, [], ◌∷◌, ◌++◌, map, length, take, drop, sym, refl, ap, ◌∙◌, subst, append-nil, arith, length-append, eq-eqb, eqb-true}
 use lib.ListN.{length-map}
 use Rattle.std.proofs.ByRecursion.{All-append}
-use Rattle.std.proofs.lemmas.Bool.{cond_both}
+use Rattle.std.proofs.lemmas.Bool.{and_parts, cond_both}
 use Rattle.std.specs.List.{AllByRecursion as All}
 use Rattle.ledger.specs.Places.{before_pieces, piece, pieces_of, place, same_source, stretch}
 use Rattle.ledger.specs.declared.words.Piece.{Piece}
@@ -15,8 +14,10 @@ use Rattle.nodes.specs.declared.types.Tree.{Tree}
 use Rattle.nodes.specs.declared.types.Tree.TheVariants.{Empty, Place'}
 use Rattle.nodes.specs.Trees.{items, Weighed}
 use Rattle.pieces.specs.Spread.{piece_of, places, size_of, spelled, spread, AllFit, Apart, Inside, StartsApart}
-use Rattle.seeking.specs.Seeks.{elements_in}
+use Rattle.seeking.specs.declared.types.Found.{Found}
+use Rattle.seeking.specs.Seeks.{Stands}
 use Rattle.reading.proofs.Counting.{begins}
+use Rattle.pieces.proofs.Sewn.{same_true}
 use Rattle.pieces.proofs.Spreads.{spread_append}
 use Rattle.reading.proofs.Places.{drop_found, take_found}
 
@@ -117,38 +118,41 @@ module _ {T : Type 0} where
   some_back [] i back n l s = (omega (arith, l), s.1)
   some_back (x ∷ front) i back n l s = some_back front i back n l s.1
 
-  module _ (tree : Tree Place T) (w : Weighed tree) (a : Apart (items tree)) (front : List (Item Place T)) (i : Item Place T) (back : List (Item Place T)) (parts : items tree ≡ front ++ i ∷ back) (n offset : ℕ) (at : elements_in front + n ≡ offset) where
-    -- the pieces of the places up to one inside an item: those before it, and a front of it
-    pub count_to : 0 < n → n ≤ i.length → length (pieces_of (take offset (places tree))) ≡ length front + 1
-    count_to some l =
-        let cut : take offset (places tree) ≡ spread (front ++ front_of i n ∷ []) = ap (λ is. take offset (spread is)) parts ∙ take_found front i back n offset at l ∙ ap (λ ps. spread front ++ ps) (sym (append-nil (stretch i.piece.source i.piece.index n))) ∙ sym (spread_append front (front_of i n ∷ [])) in
+  module _ {neutral : T} {joined : T → T → T} {tree : Tree Place T} {found : Found Place T} (stands : Stands neutral joined tree found) (w : Weighed tree) (a : Apart (items tree)) (inner : found.inner < found.item.length) where
+    all_apart : Apart (stands.front ++ found.item ∷ stands.back)
+    all_apart = subst Apart stands.parts a
+
+    every_some : All Some (stands.front ++ found.item ∷ stands.back)
+    every_some = subst (All Some) stands.parts (all_some tree w)
+
+    -- the pieces of the places up to a found one: those before its piece, and a front of that
+    pub count_to : (offset : ℕ) → found.before.length + found.inner + 1 ≡ offset → length (pieces_of (take offset (places tree))) ≡ found.before.pieces + 1
+    count_to offset at =
+        let n = found.inner + 1 in
+        let i = found.item in
+        let front = stands.front in
         let is : List (Item Place T) = front ++ front_of i n ∷ [] in
-        let counted = count_items is (some_front front i back n some (subst (All Some) parts (all_some tree w))) (apart_front front i back n (subst Apart parts a)) in
-        ap (λ ps. length (pieces_of ps)) cut ∙ counted ∙ length-append front (front_of i n ∷ [])
+        let cut : take offset (places tree) ≡ spread is = ap (λ is. take offset (spread is)) stands.parts ∙ take_found front i stands.back n offset (omega (arith, stands.elements, at)) (omega (arith, inner)) ∙ ap (λ ps. spread front ++ ps) (sym (append-nil (stretch i.piece.source i.piece.index n))) ∙ sym (spread_append front (front_of i n ∷ [])) in
+        let counted = count_items is (some_front front i stands.back n (omega arith) every_some) (apart_front front i stands.back n all_apart) in
+        let got : length (pieces_of (take offset (places tree))) ≡ length front + 1 = ap (λ ps. length (pieces_of ps)) cut ∙ counted ∙ length-append front (front_of i n ∷ []) in
+        omega (arith, got, stands.pieces)
 
-    -- the pieces of the places from one inside an item on: a back of it, and those behind it
-    pub count_from : n < i.length → length (pieces_of (drop offset (places tree))) + length front ≡ length (items tree)
-    count_from l =
-        let cut : drop offset (places tree) ≡ spread (back_of i n ∷ back) = ap (λ is. drop offset (spread is)) parts ∙ drop_found front i back n offset at (omega (arith, l)) in
-        let counted : length (pieces_of (spread (back_of i n ∷ back))) ≡ length (back_of i n ∷ back) = count_items (back_of i n ∷ back) (some_back front i back n l (subst (All Some) parts (all_some tree w))) (apart_back front i back n l (subst Apart parts a)) in
-        let got : length (pieces_of (drop offset (places tree))) ≡ suc (length back) = ap (λ ps. length (pieces_of ps)) cut ∙ counted in
-        let whole : length (items tree) ≡ length front + suc (length back) = ap length parts ∙ length-append front (i ∷ back) in
-        omega (arith, got, whole)
-
-and_true : (x y : Bool) → (x && y) ≡ true → (x ≡ true) × (y ≡ true)
-and_true true y e = (refl, e)
-and_true false y e = absurd (clash e)
-
-same_true : (x y : Source) → same_source x y ≡ true → x ≡ y
-same_true Original Original e = refl
-same_true Original Added e = absurd (clash e)
-same_true Added Original e = absurd (clash e)
-same_true Added Added e = refl
+    -- the pieces of the places from a found one on: a back of its piece, and those behind that
+    pub count_from : (offset : ℕ) → found.before.length + found.inner ≡ offset → length (pieces_of (drop offset (places tree))) + found.before.pieces ≡ length (items tree)
+    count_from offset at =
+        let n = found.inner in
+        let i = found.item in
+        let is : List (Item Place T) = back_of i n ∷ stands.back in
+        let cut : drop offset (places tree) ≡ spread is = ap (λ is. drop offset (spread is)) stands.parts ∙ drop_found stands.front i stands.back n offset (omega (arith, stands.elements, at)) (omega (arith, inner)) in
+        let counted = count_items is (some_back stands.front i stands.back n inner every_some) (apart_back stands.front i stands.back n inner all_apart) in
+        let got : length (pieces_of (drop offset (places tree))) ≡ suc (length stands.back) = ap (λ ps. length (pieces_of ps)) cut ∙ counted in
+        let whole = ap length stands.parts ∙ length-append stands.front (i ∷ stands.back) in
+        omega (arith, got, whole, stands.pieces)
 
 -- where a place goes on to a piece, the piece begins at the next place of the same source
 goes_on_true : (p : Place) (first : Piece) → (same_source p.source first.source && eqb (suc p.index) first.start) ≡ true → (p.source ≡ first.source) × (suc p.index ≡ first.start)
 goes_on_true p first met =
-    let both = and_true (same_source p.source first.source) (eqb (suc p.index) first.start) met in
+    let both = and_parts (same_source p.source first.source) (eqb (suc p.index) first.start) met in
     (same_true p.source first.source both.0, eqb-true (suc p.index) first.start both.1)
 
 spelled_before : (p : Place) (pieces : List Piece) → spelled (before_pieces p pieces) ≡ p ∷ spelled pieces

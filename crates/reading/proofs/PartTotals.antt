@@ -1,12 +1,10 @@
 -- Parts of a tree of pieces, and their totals. Assumes nothing.
-use Rattle.std.proofs.Common.{◌≡◌, ℕ, zero, suc, ◌+◌, ◌-◌, ◌≤◌, min, Bool, List, [], ◌∷◌, ◌++◌, length, take, drop, Box, sym, refl, ap, ◌∙◌, subst, arith, length-append, length-drop, take_all, take-take, drop-drop}
-use native.Mathlib.Nat.{zero-min, suc-min-suc}
-use lib.Seq.{take-nil, drop-nil}
-use Rattle.std.proofs.lemmas.List.{drop-take}
+use Rattle.std.proofs.Common.{◌≡◌, ℕ, zero, suc, ◌+◌, ◌-◌, ◌≤◌, min, Bool, List, [], ◌∷◌, ◌++◌, length, take, drop, Box, sym, refl, ap, ◌∙◌, subst, arith, length-drop, take_all, take-take, drop-drop}
+use Rattle.std.proofs.lemmas.List.{drop_min, drop-take, take_min}
 use Rattle.std.specs.declared.alloc.Global.{Global}
 use Rattle.measure.specs.Totals.{Monoid, total}
 use Rattle.measure.proofs.Totals.{total_append}
-use Rattle.ledger.specs.Places.{elements_at, source_list, stretch}
+use Rattle.ledger.specs.Places.{source_list}
 use Rattle.ledger.specs.declared.words.Place.{Place}
 use Rattle.nodes.specs.declared.types.Item.{Item}
 use Rattle.nodes.specs.declared.types.Node.{Node}
@@ -14,10 +12,11 @@ use Rattle.nodes.specs.declared.types.Tree.{Tree}
 use Rattle.nodes.specs.declared.types.Tree as trees
 use Rattle.nodes.specs.Trees.{items, long, whole, Summed, Weighed}
 use Rattle.pieces.specs.Faithful.{elements, source_part, Carries, AllCarry, Faithful}
-use Rattle.pieces.specs.Spread.{spread, size_of, Inside}
-use Rattle.pieces.proofs.Elements.{elements_append, elements_stretch, part_long}
-use Rattle.pieces.proofs.Spreads.{spread_append}
-use Rattle.seeking.specs.Seeks.{elements_in, total_of}
+use Rattle.pieces.specs.Spread.{size_of, Inside}
+use Rattle.pieces.proofs.Elements.{part_long}
+use Rattle.pieces.proofs.Spreads.{carry_back, carry_front, inside_back, inside_front}
+use Rattle.reading.proofs.LineItems.{spelt, spelt_append, spelt_first, spelt_long}
+use Rattle.seeking.specs.Seeks.{total_of}
 use Rattle.seeking.proofs.Standing.{long_is, whole_is}
 use Rattle.reading.specs.LineParts.{part}
 
@@ -36,24 +35,13 @@ module _ {E : Type 0} where
       let less : k - length xs ≡ suc k - suc (length xs) = omega arith in
       drop_append k xs ys ∙ ap (λ n. drop k xs ++ drop n ys) less
 
-  take_capped : (k : ℕ) (xs : List E) → take k xs ≡ take (min k (length xs)) xs
-  take_capped zero xs = ap (λ n. take n xs) (sym (zero-min (length xs)))
-  take_capped (suc k) [] = sym (take-nil (min (suc k) 0))
-  take_capped (suc k) (x ∷ xs) =
-      ap (λ l. x ∷ l) (take_capped k xs) ∙ ap (λ n. take n (x ∷ xs)) (sym (suc-min-suc k (length xs)))
-
-  drop_capped : (k : ℕ) (xs : List E) → drop k xs ≡ drop (min k (length xs)) xs
-  drop_capped zero xs = ap (λ n. drop n xs) (sym (zero-min (length xs)))
-  drop_capped (suc k) [] = sym (drop-nil (min (suc k) 0))
-  drop_capped (suc k) (x ∷ xs) = drop_capped k xs ∙ ap (λ n. drop n (x ∷ xs)) (sym (suc-min-suc k (length xs)))
-
   -- offsets behind the end of a list may as well stand at its end
   part_capped : (from upto n : ℕ) (xs : List E) → length xs ≡ n → part from upto xs ≡ part (min from n) (min upto n) xs
   part_capped from upto n xs long =
       let rest = length-drop from xs in
       let less : min (upto - from) (length (drop from xs)) ≡ min upto n - min from n = omega arith in
       let start : min from (length xs) ≡ min from n = omega arith in
-      take_capped (upto - from) (drop from xs) ∙ ap (λ k. take k (drop from xs)) less ∙ ap (take (min upto n - min from n)) (drop_capped from xs ∙ ap (λ k. drop k xs) start)
+      sym (take_min (upto - from) (drop from xs)) ∙ ap (λ k. take k (drop from xs)) less ∙ ap (take (min upto n - min from n)) (sym (drop_min from xs) ∙ ap (λ k. drop k xs) start)
 
   -- a part of two lists, one after the other, is a part of the first and then one of the second
   part_append : (from upto n : ℕ) (xs ys : List E) → length xs ≡ n → part from upto (xs ++ ys) ≡ part (min from n) (min upto n) xs ++ part (from - n) (upto - n) ys
@@ -82,39 +70,9 @@ module _ {E : Type 0} (original added : List E) where
       ∙ take-take (upto - from) (n - from) (drop from rest) (omega arith)
       ∙ ap (take (upto - from)) (drop-drop from first.index (source_list original added first.source))
 
-module _ {E T : Type 0} (original added : List E) where
-  -- the elements of some items
-  abbrev these : List (Item Place T) → List E
-  these xs = elements_at original added (spread xs)
-
-  -- the elements of an item
-  abbrev own : Item Place T → List E
-  own x = source_part original added x.piece x.length
-
-  these_first : (x : Item Place T) (xs : List (Item Place T)) → these (x ∷ xs) ≡ own x ++ these xs
-  these_first x xs =
-      elements_append original added (stretch x.piece.source x.piece.index x.length) (spread xs)
-      ∙ ap (λ l. l ++ these xs) (elements_stretch original added x.piece.source x.piece.index x.length)
-
-  these_through : (xs : List (Item Place T)) (x : Item Place T) (ys : List (Item Place T)) → these (xs ++ x ∷ ys) ≡ these xs ++ (own x ++ these ys)
-  these_through xs x ys =
-      ap (elements_at original added) (spread_append xs (x ∷ ys))
-      ∙ elements_append original added (spread xs) (spread (x ∷ ys))
-      ∙ ap (λ l. these xs ++ l) (these_first x ys)
-
-  -- as many elements as the items say
-  these_long : (xs : List (Item Place T)) → Inside (length original) (length added) xs → length (these xs) ≡ elements_in xs
-  these_long [] inside = refl
-  these_long (x ∷ xs) inside =
-      omega (arith, ap length (these_first x xs), length-append (own x) (these xs), part_long original added x.piece x.length inside.0, these_long xs inside.1)
-
-  pub elements_long : (tree : Tree Place T) → Weighed tree → Inside (length original) (length added) (items tree) → length (elements original added tree) ≡ long tree
-  elements_long tree weighed inside = these_long (items tree) inside ∙ sym (long_is tree weighed)
-
--- what lies on each side of an item lies inside where all do
-inside_cut : {T : Type 0} (n a : ℕ) (xs : List (Item Place T)) (x : Item Place T) (ys : List (Item Place T)) → Inside n a (xs ++ x ∷ ys) → Inside n a xs × Inside n a (x ∷ ys)
-inside_cut n a [] x ys h = (tt, h)
-inside_cut n a (z ∷ xs) x ys h = let more = inside_cut n a xs x ys h.1 in ((h.0, more.0), more.1)
+-- a tree has as many elements as it says
+pub elements_long : {E T : Type 0} (original added : List E) (tree : Tree Place T) → Weighed tree → Inside (length original) (length added) (items tree) → length (elements original added tree) ≡ long tree
+elements_long original added tree weighed inside = spelt_long original added (items tree) inside ∙ sym (long_is tree weighed)
 
 -- what is known of a tree at its top place
 pub record Opens {T : Type 0} (n a : ℕ) (tree : Tree Place T) (node : Node Place T) : Type 0 where
@@ -133,16 +91,17 @@ opens_value : {T : Type 0} {n a : ℕ} {tree : Tree Place T} {place : Box (Node 
 opens_value {n = n} {a = a} {place = place} is weighed inside =
     let w = subst Weighed is weighed in
     let node = place.value in
-    let cut = inside_cut n a (items node.left) node.item (items node.right) (subst (λ t. Inside n a (items t)) is inside) in
+    let all = subst (λ t. Inside n a (items t)) is inside in
+    let cut = inside_back n a (items node.left) (node.item ∷ items node.right) all in
     record {
       items_are = ap items is;
       length_is = ap long is;
       long_are = ap long is ∙ w.0;
       left_weighed = w.4;
       right_weighed = w.5;
-      left_inside = cut.0;
-      item_inside = cut.1.0;
-      right_inside = cut.1.1;
+      left_inside = inside_front n a (items node.left) (node.item ∷ items node.right) all;
+      item_inside = cut.0;
+      right_inside = cut.1;
       total_is = λ neutral. ap (whole neutral) is;
       sides = λ neutral joined summed. let s = subst (Summed neutral joined) is summed in (s.1, s.2);
     }
@@ -154,17 +113,13 @@ module _ {E T : Type 0} (breaks : E → Bool) (neutral : T) (value : E → T) (j
   abbrev sum : List E → T
   sum = total neutral value joined
 
-  carry_cut : (xs : List (Item Place T)) (x : Item Place T) (ys : List (Item Place T)) → AllCarry breaks neutral value joined original added (xs ++ x ∷ ys) → AllCarry breaks neutral value joined original added xs × AllCarry breaks neutral value joined original added (x ∷ ys)
-  carry_cut [] x ys h = (tt, h)
-  carry_cut (z ∷ xs) x ys h = let more = carry_cut xs x ys h.1 in ((h.0, more.0), more.1)
-
   -- the totals that items carry make the total of their elements
-  carried : (xs : List (Item Place T)) → AllCarry breaks neutral value joined original added xs → total_of neutral joined xs ≡ sum (these original added xs)
+  carried : (xs : List (Item Place T)) → AllCarry breaks neutral value joined original added xs → total_of neutral joined xs ≡ sum (spelt original added xs)
   carried [] h = refl
   carried (x ∷ xs) h =
       (λ i. joined (h.0.1 i) (carried xs h.1 i))
-      ∙ sym (total_append neutral value joined laws (own original added x) (these original added xs))
-      ∙ ap sum (sym (these_first original added x xs))
+      ∙ sym (total_append neutral value joined laws (source_part original added x.piece x.length) (spelt original added xs))
+      ∙ ap sum (sym (spelt_first original added x xs))
 
   -- a faithful tree carries the total of its elements
   pub whole_total : (tree : Tree Place T) → Faithful breaks neutral value joined original added tree → whole neutral tree ≡ sum (elements original added tree)
@@ -173,15 +128,15 @@ module _ {E T : Type 0} (breaks : E → Bool) (neutral : T) (value : E → T) (j
   -- the sides of a faithful tree and its item
   pub faithful_left : {tree : Tree Place T} {node : Node Place T} → Opens (length original) (length added) tree node → Faithful breaks neutral value joined original added tree → Faithful breaks neutral value joined original added node.left
   faithful_left {node = node} o faithful =
-      ((o.sides neutral joined faithful.0).0, (carry_cut (items node.left) node.item (items node.right) (subst (AllCarry breaks neutral value joined original added) o.items_are faithful.1)).0)
+      ((o.sides neutral joined faithful.0).0, carry_front breaks neutral value joined original added (items node.left) (node.item ∷ items node.right) (subst (AllCarry breaks neutral value joined original added) o.items_are faithful.1))
 
   pub faithful_item : {tree : Tree Place T} {node : Node Place T} → Opens (length original) (length added) tree node → Faithful breaks neutral value joined original added tree → Carries breaks neutral value joined original added node.item
   faithful_item {node = node} o faithful =
-      (carry_cut (items node.left) node.item (items node.right) (subst (AllCarry breaks neutral value joined original added) o.items_are faithful.1)).1.0
+      (carry_back breaks neutral value joined original added (items node.left) (node.item ∷ items node.right) (subst (AllCarry breaks neutral value joined original added) o.items_are faithful.1)).0
 
   pub faithful_right : {tree : Tree Place T} {node : Node Place T} → Opens (length original) (length added) tree node → Faithful breaks neutral value joined original added tree → Faithful breaks neutral value joined original added node.right
   faithful_right {node = node} o faithful =
-      ((o.sides neutral joined faithful.0).1, (carry_cut (items node.left) node.item (items node.right) (subst (AllCarry breaks neutral value joined original added) o.items_are faithful.1)).1.1)
+      ((o.sides neutral joined faithful.0).1, (carry_back breaks neutral value joined original added (items node.left) (node.item ∷ items node.right) (subst (AllCarry breaks neutral value joined original added) o.items_are faithful.1)).1)
 
   -- the total of a part is that of its parts on the left, in the item and on the right
   pub joined_total :
@@ -189,17 +144,17 @@ module _ {E T : Type 0} (breaks : E → Bool) (neutral : T) (value : E → T) (j
       → Opens (length original) (length added) tree node
       → l ≡ long node.left
       → m ≡ node.item.length
-      → joined (joined (sum (part (min from l) (min upto l) (elements original added node.left))) (sum (part (min (from - l) m) (min (upto - l) m) (own original added node.item)))) (sum (part (from - l - m) (upto - l - m) (elements original added node.right))) ≡ sum (part from upto (elements original added tree))
+      → joined (joined (sum (part (min from l) (min upto l) (elements original added node.left))) (sum (part (min (from - l) m) (min (upto - l) m) (source_part original added node.item.piece node.item.length)))) (sum (part (from - l - m) (upto - l - m) (elements original added node.right))) ≡ sum (part from upto (elements original added tree))
   joined_total {tree = tree} {node = node} from upto l m o left item =
       let front : List E = elements original added node.left in
-      let inner : List E = own original added node.item in
+      let inner : List E = source_part original added node.item.piece node.item.length in
       let back : List E = elements original added node.right in
       let first : List E = part (min from l) (min upto l) front in
       let second : List E = part (min (from - l) m) (min (upto - l) m) inner in
       let third : List E = part (from - l - m) (upto - l - m) back in
       let front_long : length front ≡ l = elements_long original added node.left o.left_weighed o.left_inside ∙ sym left in
       let inner_long : length inner ≡ m = part_long original added node.item.piece node.item.length o.item_inside ∙ sym item in
-      let whole_are : elements original added tree ≡ front ++ (inner ++ back) = ap (these original added) o.items_are ∙ these_through original added (items node.left) node.item (items node.right) in
+      let whole_are : elements original added tree ≡ front ++ (inner ++ back) = ap (spelt original added) o.items_are ∙ spelt_append original added (items node.left) (node.item ∷ items node.right) ∙ ap (λ l. front ++ l) (spelt_first original added node.item (items node.right)) in
       let cut : part from upto (elements original added tree) ≡ first ++ (second ++ third) = ap (part from upto) whole_are ∙ part_append from upto l front (inner ++ back) front_long ∙ ap (λ s. first ++ s) (part_append (from - l) (upto - l) m inner back inner_long) in
       laws.associative (sum first) (sum second) (sum third)
       ∙ ap (joined (sum first)) (sym (total_append neutral value joined laws second third))

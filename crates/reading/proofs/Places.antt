@@ -2,17 +2,19 @@
 use Rattle.std.proofs.Common.{◌≡◌, ℕ, zero, suc, ◌+◌, ◌-◌, ◌<◌, ◌≤◌, List, [], ◌∷◌, ◌++◌, length, get_or, take, drop, sym, refl, ap, ◌∙◌, subst, arith, length-append}
 use lib.Seq.{take-append-add, drop-append-add}
 use Rattle.std.proofs.lemmas.List.{drop_more, get_or-append-add, get_or_append_left}
-use Rattle.ledger.specs.Places.{elements_at, place, stretch}
+use Rattle.ledger.specs.Places.{place, stretch}
 use Rattle.ledger.specs.declared.words.Place.{Place}
 use Rattle.ledger.specs.declared.words.Source.{Source}
 use Rattle.nodes.specs.declared.types.Item.{Item}
 use Rattle.nodes.specs.declared.types.Tree.{Tree}
 use Rattle.nodes.specs.Trees.{items}
 use Rattle.pieces.specs.Faithful.{elements, source_part}
-use Rattle.pieces.specs.Spread.{places, size_of, spread, Inside}
-use Rattle.pieces.proofs.Elements.{elements_append, elements_stretch, part_long}
-use Rattle.pieces.proofs.Spreads.{spread_append, stretch_length}
-use Rattle.seeking.specs.Seeks.{elements_in}
+use Rattle.pieces.specs.Spread.{places, spread, Inside}
+use Rattle.pieces.proofs.Elements.{part_long}
+use Rattle.pieces.proofs.Spreads.{inside_back, inside_front, spread_append, stretch_length}
+use Rattle.reading.proofs.LineItems.{spelt, spelt_append, spelt_first, spelt_long}
+use Rattle.seeking.specs.declared.types.Found.{Found}
+use Rattle.seeking.specs.Seeks.{elements_in, Stands}
 
 -- what stands inside a part of a list
 read_part : {X : Type 0} (xs part ys : List X) (n offset : ℕ) (x : X) → length xs + n ≡ offset → n < length part → x ≡ get_or part n x → drop offset (xs ++ (part ++ ys)) ≡ x ∷ drop (offset + 1) (xs ++ (part ++ ys))
@@ -96,35 +98,21 @@ module _ {T : Type 0} where
         subst (λ ps. drop offset ps ≡ p ∷ drop (offset + 1) ps) (sym whole)
         (read_part (spread front) here (spread back) n offset p (sym begun) (omega (arith, own, l)) (sym (get_d_stretch i.piece.source i.piece.index i.length n p l)))
 
-  pub place_found : (tree : Tree Place T) (front : List (Item Place T)) (i : Item Place T) (back : List (Item Place T)) (n offset : ℕ) → items tree ≡ front ++ i ∷ back → elements_in front + n ≡ offset → n < i.length → drop offset (places tree) ≡ place i.piece.source (i.piece.index + n) ∷ drop (offset + 1) (places tree)
-  place_found tree front i back n offset parts at l =
-      subst (λ is. drop offset (spread is) ≡ place i.piece.source (i.piece.index + n) ∷ drop (offset + 1) (spread is)) (sym parts) (place_in front i back n offset at l)
+  module _ {neutral : T} {joined : T → T → T} {tree : Tree Place T} {found : Found Place T} (stands : Stands neutral joined tree found) {offset : ℕ} (at : found.before.length + found.inner ≡ offset) (inner : found.inner < found.item.length) where
+    -- the place at an offset
+    pub place_found : drop offset (places tree) ≡ place found.item.piece.source (found.item.piece.index + found.inner) ∷ drop (offset + 1) (places tree)
+    place_found =
+        subst (λ is. drop offset (spread is) ≡ place found.item.piece.source (found.item.piece.index + found.inner) ∷ drop (offset + 1) (spread is)) (sym stands.parts)
+        (place_in stands.front found.item stands.back found.inner offset (omega (arith, stands.elements, at)) inner)
 
-  -- an item of a tree lies in its source
-  pub inside_at : (original added : ℕ) (front : List (Item Place T)) (i : Item Place T) (back : List (Item Place T)) → Inside original added (front ++ i ∷ back) → Inside original added front × (i.piece.index + i.length ≤ size_of original added i.piece.source)
-  inside_at original added [] i back h = (tt, h.0)
-  inside_at original added (x ∷ front) i back h = let rest = inside_at original added front i back h.1 in ((h.0, rest.0), rest.1)
-
-module _ {E : Type 0} (original added : List E) where
-  module _ {T : Type 0} where
-    length_elements : (is : List (Item Place T)) → Inside (length original) (length added) is → length (elements_at original added (spread is)) ≡ elements_in is
-    length_elements [] h = refl
-    length_elements (i ∷ more) h =
-        let here : List Place = stretch i.piece.source i.piece.index i.length in
-        let parted = ap length (elements_append original added here (spread more)) in
-        let both = length-append (elements_at original added here) (elements_at original added (spread more)) in
-        let own : length (elements_at original added here) ≡ i.length = ap length (elements_stretch original added i.piece.source i.piece.index i.length) ∙ part_long original added i.piece i.length h.0 in
-        let rest = length_elements more h.1 in
-        omega (arith, parted, both, own, rest)
-
-    -- the element inside an item
-    pub element_found : (tree : Tree Place T) (front : List (Item Place T)) (i : Item Place T) (back : List (Item Place T)) (n offset : ℕ) (e : E) → Inside (length original) (length added) (items tree) → items tree ≡ front ++ i ∷ back → elements_in front + n ≡ offset → n < i.length → e ≡ get_or (source_part original added i.piece i.length) n e → drop offset (elements original added tree) ≡ e ∷ drop (offset + 1) (elements original added tree)
-    element_found tree front i back n offset e h parts at l is =
-        let inside = inside_at (length original) (length added) front i back (subst (Inside (length original) (length added)) parts h) in
-        let here : List Place = stretch i.piece.source i.piece.index i.length in
-        let part : List E = source_part original added i.piece i.length in
-        let whole_is : elements original added tree ≡ elements_at original added (spread front) ++ (part ++ elements_at original added (spread back)) = ap (λ is. elements_at original added (spread is)) parts ∙ ap (elements_at original added) (spread_append front (i ∷ back)) ∙ elements_append original added (spread front) (here ++ spread back) ∙ ap (λ es. elements_at original added (spread front) ++ es) (elements_append original added here (spread back) ∙ ap (λ es. es ++ elements_at original added (spread back)) (elements_stretch original added i.piece.source i.piece.index i.length)) in
-        let before = length_elements front inside.0 in
-        let own = part_long original added i.piece i.length inside.1 in
+    -- the element at an offset
+    pub element_found : {E : Type 0} (original added : List E) (e : E) → Inside (length original) (length added) (items tree) → e ≡ get_or (source_part original added found.item.piece found.item.length) found.inner e → drop offset (elements original added tree) ≡ e ∷ drop (offset + 1) (elements original added tree)
+    element_found original added e within is =
+        let all : Inside (length original) (length added) (stands.front ++ found.item ∷ stands.back) = subst (Inside (length original) (length added)) stands.parts within in
+        let front = spelt original added stands.front in
+        let part = source_part original added found.item.piece found.item.length in
+        let whole_is : elements original added tree ≡ front ++ (part ++ spelt original added stands.back) = ap (spelt original added) stands.parts ∙ spelt_append original added stands.front (found.item ∷ stands.back) ∙ ap (λ es. front ++ es) (spelt_first original added found.item stands.back) in
+        let before = spelt_long original added stands.front (inside_front (length original) (length added) stands.front (found.item ∷ stands.back) all) in
+        let own = part_long original added found.item.piece found.item.length (inside_back (length original) (length added) stands.front (found.item ∷ stands.back) all).0 in
         subst (λ es. drop offset es ≡ e ∷ drop (offset + 1) es) (sym whole_is)
-        (read_part (elements_at original added (spread front)) part (elements_at original added (spread back)) n offset e (omega (arith, before, at)) (omega (arith, own, l)) is)
+        (read_part front part (spelt original added stands.back) found.inner offset e (omega (arith, before, stands.elements, at)) (omega (arith, own, inner)) is)

@@ -1,5 +1,5 @@
 -- The places that spots stand for. Assumes nothing.
-use Rattle.std.specs.Prelude.{ℕ, ◌+◌, List, [], ◌∷◌, Some, None, Option}
+use Rattle.std.specs.Prelude.{◌+◌, List, [], ◌∷◌, Some, None, Option}
 use Rattle.ledger.specs.Places.{place}
 use Rattle.ledger.specs.declared.words.Place.{Place}
 use Rattle.reading.specs.declared.ends.Spot.{Spot}

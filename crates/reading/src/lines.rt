@@ -99,7 +99,10 @@ fn break_position<E: Element>(part: &[E], number: usize) -> usize
     ensures position { result ≡ behind E.breaks (suc number) part.now }
     ensures within { result ≤ length part.now }
 {
-    let mut breaks = part.iter().enumerate().filter(|(_, element)| element.is_break());
+    let mut breaks = part
+        .iter()
+        .enumerate()
+        .filter(|(_, element)| element.is_break());
     match breaks.nth(number) {
         Some((i, _)) => i + 1,
         None => part.len(),

@@ -13,15 +13,11 @@ returns-then-offset-all g c =
 pub overflow_sub-result : goal.overflow_sub-result
 overflow_sub-result g c =
     let f = c.find.ensures in
-    let s = f.stands in
-    let count = count_from c.args.tree.now c.requires.weighed c.requires.apart s.front c.find.result.item s.back s.parts c.find.result.inner c.args.offset (omega (arith, s.elements, f.offset)) f.inner in
-    let all = placed_is c.args.tree.now c.requires.weighed in
-    omega (arith, s.pieces, count, all, c.sums-all.ensures.pieces)
+    let count = count_from f.stands c.requires.weighed c.requires.apart f.inner c.args.offset f.offset in
+    omega (arith, count, placed_is c.args.tree.now c.requires.weighed, c.sums-all.ensures.pieces)
 
 pub returns : goal.returns
 returns g c =
     let f = c.find.ensures in
-    let s = f.stands in
-    let count = count_from c.args.tree.now c.requires.weighed c.requires.apart s.front c.find.result.item s.back s.parts c.find.result.inner c.args.offset (omega (arith, s.elements, f.offset)) f.inner in
-    let all = placed_is c.args.tree.now c.requires.weighed in
-    omega (arith, s.pieces, count, all, c.sums-all.ensures.pieces)
+    let count = count_from f.stands c.requires.weighed c.requires.apart f.inner c.args.offset f.offset in
+    omega (arith, count, placed_is c.args.tree.now c.requires.weighed, c.sums-all.ensures.pieces)

@@ -1,6 +1,6 @@
-use Rattle.std.proofs.Common.{◌-◌, arith}
+use Rattle.std.proofs.Common.{ℕ, ◌-◌, cond, ap, arith}
 use Rattle.nodes.proofs.Bounds.{within}
-use Rattle.reading.proofs.LineReads.{lines_closed, lines_open}
+use Rattle.reading.proofs.LineReads.{tree_lines}
 use Rattle.reading.proofs.lines.line_count.Goals as goal
 
 pub overflow_add-result : goal.overflow_add-result
@@ -9,13 +9,13 @@ overflow_add-result g c =
     omega (arith, c.sums-all.ensures.breaks, few.0, c.requires.fits)
 
 pub returns-then-is_break : goal.returns-then-is_break
-returns-then-is_break g c f =
+returns-then-is_break g c faithful =
     let all = c.sums-all.ensures in
-    let h = lines_closed c.args.sources.original.now c.args.sources.added.now g.T.Total.neutral g.T.Total.joined c.args.tree.now c.requires.inside c.requires.weighed g.E.Element.breaks g.T.Measure.value f.1 (c.sums-all.result.length - 1) c.element_at.result (omega (arith, all.length, c.if-all-eq0.false)) c.element_at.ensures c.if-is_break.ensures in
-    omega (arith, h, all.breaks)
+    let lines = tree_lines g.E.Element.breaks g.T.Total.neutral g.T.Measure.value g.T.Total.joined c.args.sources.original.now c.args.sources.added.now c.args.tree.now c.requires.weighed c.requires.inside faithful (c.sums-all.result.length - 1) c.element_at.result (omega (arith, all.length, c.if-all-eq0.false)) c.element_at.ensures in
+    omega (arith, lines, ap {B = ℕ} (λ b. cond b 1 0) c.if-is_break.ensures, all.breaks)
 
 pub returns-else-is_break : goal.returns-else-is_break
-returns-else-is_break g c f =
+returns-else-is_break g c faithful =
     let all = c.sums-all.ensures in
-    let h = lines_open c.args.sources.original.now c.args.sources.added.now g.T.Total.neutral g.T.Total.joined c.args.tree.now c.requires.inside c.requires.weighed g.E.Element.breaks g.T.Measure.value f.1 (c.sums-all.result.length - 1) c.element_at.result (omega (arith, all.length, c.if-all-eq0.false)) c.element_at.ensures c.if-is_break.ensures in
-    omega (arith, h, all.breaks)
+    let lines = tree_lines g.E.Element.breaks g.T.Total.neutral g.T.Measure.value g.T.Total.joined c.args.sources.original.now c.args.sources.added.now c.args.tree.now c.requires.weighed c.requires.inside faithful (c.sums-all.result.length - 1) c.element_at.result (omega (arith, all.length, c.if-all-eq0.false)) c.element_at.ensures in
+    omega (arith, lines, ap {B = ℕ} (λ b. cond b 1 0) c.if-is_break.ensures, all.breaks)

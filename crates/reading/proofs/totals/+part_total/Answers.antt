@@ -25,16 +25,9 @@ part_total-front-requires g t c κs within =
     let long = o.long_are in
     search rules
 
-pub item_total-inner-requires : goal.item_total-inner-requires
-item_total-inner-requires g t c =
-    let o = opens c.in-Place.is c.deref-node.ensures c.requires.weighed c.requires.inside in
-    record {
-      inside = o.item_inside;
-      within = (
-        omega (arith, c.min-in-Place-2.ensures, c.min-in-Place-3.ensures, c.saturating_sub-begin.ensures, c.saturating_sub-end.ensures, c.requires.within),
-        omega (arith, c.min-in-Place-3.ensures),
-      );
-    }
+pub item_total-inner-requires-clause-inside : goal.item_total-inner-requires-clause-inside
+item_total-inner-requires-clause-inside g t c =
+    (opens c.in-Place.is c.deref-node.ensures c.requires.weighed c.requires.inside).item_inside
 
 pub part_total-back-requires : goal.part_total-back-requires
 part_total-back-requires g t c κs within =
