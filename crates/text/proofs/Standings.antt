@@ -5,7 +5,7 @@ use Rattle.element.specs.declared.Element.{Ghosts as Elements}
 use Rattle.measure.specs.declared.Measure.{Ghosts as Measures}
 use Rattle.measure.specs.declared.Total.{Ghosts as Totals}
 use Rattle.nodes.specs.Trees.{items, long, placed}
-use Rattle.pieces.specs.Spread.{Inside, Standing}
+use Rattle.pieces.specs.Spread.{Inside}
 use Rattle.seeking.proofs.Standing.{placed_is}
 use Rattle.reading.proofs.Changes.{long_places, placed_pieces}
 use Rattle.reading.proofs.PartTotals.{elements_long}

@@ -7,7 +7,7 @@ use Rattle.nodes.specs.declared.types.Item.{Item}
 use Rattle.nodes.specs.declared.types.Tree.{Tree}
 use Rattle.nodes.specs.declared.types.Tree.TheVariants.{Empty, Place'}
 use Rattle.nodes.specs.Trees.{items, whole, Summed}
-use Rattle.pieces.specs.Faithful.{count_breaks, source_part, AllCarry, Carries, Faithful}
+use Rattle.pieces.specs.Faithful.{count_breaks, source_part, AllCarry, Faithful}
 
 module _ {T : Type 0} (code : Coded T) where
   summed_prop : {P : Type 0} (neutral : T) (joined : T → T → T) (tree : Tree P T) → IsProp (Summed neutral joined tree)
