@@ -1,3 +1,2 @@
-pub mod Props
 pub mod Reverts
 pub mod Staying

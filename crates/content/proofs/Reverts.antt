@@ -1,5 +1,8 @@
 -- A step taken back gives the text before it. Assumes nothing.
 use Rattle.std.proofs.Common.{◌≡◌, ℕ, zero, suc, ◌+◌, ◌≤◌, List, [], ◌∷◌, ◌++◌, length, take, drop, sym, refl, ap, ◌∙◌, subst, arith, length-append, length-drop, take-append-drop, length-take, drop-drop}
+use Rattle.element.specs.declared.Element.{Ghosts as Elements}
+use Rattle.measure.specs.declared.Measure.{Ghosts as Measures}
+use Rattle.measure.specs.declared.Total.{Ghosts as Totals}
 use Rattle.ledger.specs.Legal.{Fit}
 use Rattle.ledger.specs.Places.{elements_at, pieces_of, source_list, stretch}
 use Rattle.ledger.specs.Steps.{Content, apply}
@@ -69,7 +72,7 @@ back_again : (step : Step) (c : Content) → Fit step c → taken_back step (kep
 back_again (Insert x n start) c fit = out_again x n (stretch Added start n) c.places fit.1 (stretch_length Added start n)
 back_again (Delete x n) c fit =
     in_again x n (spelled (pieces_of (take n (drop x c.places)))) c.places (omega (arith, fit.1)) (spelled_pieces (take n (drop x c.places)))
-back_again (SetMark name m) c fit = refl
+back_again (SetMark name mark) c fit = refl
 back_again (DropMark name) c fit = refl
 
 module _ {E : Type 0} (original added : List E) where
@@ -90,7 +93,7 @@ module _ {E : Type 0} (original added : List E) where
       let inner = ap length (elements_append original added part back) ∙ length-append (at part) (at back) in
       omega (arith, whole, outer, inner, length-append front (part ++ back), length-append part back, at_most front, at_most part, at_most back)
 
-module _ {E T : Type 0} (s : Sheet E T) (marks : Marks) where
+module _ {E T : Type 0} {e : Elements E} {m : Measures T E} {total : Totals T} (s : Sheet E T e m total) (marks : Marks) where
   -- so it does for every content that the step was made out of
   places_again : (step : Step) (runs : List Piece) (before : Content) → MadeOf step marks runs s before → taken_back step runs (text_places s.text) ≡ before.places
   places_again step runs before h =
@@ -104,8 +107,8 @@ module _ {E T : Type 0} (s : Sheet E T) (marks : Marks) where
       same_content ps (marks_of marks) before (is ∙ places_again step runs before h) h.marks_are
 
   -- in which the marks lie
-  pub inside_again : (step : Step) (runs : List Piece) (ps : List Place) → ps ≡ taken_back step runs (text_places s.text) → Undoable step marks runs s → ∥ Inside (record { places = ps; marks = marks_of marks }) ∥₁
-  inside_again step runs ps is u = ∣ subst Inside (sym (content_again step runs ps u.before is u.made_of)) u.inside ∣₁
+  pub inside_again : (step : Step) (runs : List Piece) (ps : List Place) → ps ≡ taken_back step runs (text_places s.text) → Undoable step marks runs s → Inside (record { places = ps; marks = marks_of marks })
+  inside_again step runs ps is u = subst Inside (sym (content_again step runs ps u.before is u.made_of)) u.inside
 
   -- the text is within the bounds of the change that takes the step back
   pub restorable : (step : Step) (runs : List Piece) → Undoable step marks runs s → Restorable step runs s.text
@@ -138,7 +141,7 @@ module _ {E T : Type 0} (s : Sheet E T) (marks : Marks) where
         within = omega (arith, long, parts, length-take x ps, fit.1);
         short = omega (arith, long, parts, long_part, length-take x ps, length-drop (x + n) ps, fit.1, u.short);
       }
-  restorable (SetMark name m) runs u = tt
+  restorable (SetMark name mark) runs u = tt
   restorable (DropMark name) runs u = tt
 
   -- and it leaves no more pieces than there may be

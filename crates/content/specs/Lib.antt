@@ -1,1 +1,2 @@
+pub mod Props
 pub mod Sheets

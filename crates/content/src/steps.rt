@@ -3,7 +3,7 @@ ghost use Rattle.std.specs.Prelude.{◌≡◌, ◌+◌, ◌≤◌, ◌++◌, len
 ghost use Rattle.ledger.specs.Places.{pieces_of};
 ghost use Rattle.ledger.specs.Steps.{Content, apply};
 ghost use Rattle.ledger.specs.declared.words.Step.TheVariants.{Delete};
-ghost use Rattle.text.specs.Texts.{text_places, Kept, Measured};
+ghost use Rattle.text.specs.Texts.{text_places, Kept};
 ghost use Rattle.content.specs.Sheets.{content_of, kept_runs, taken_back, Doable, MadeOf, Restorable, Undoable};
 
 use crate::Sheet;
@@ -19,17 +19,11 @@ fn restore<'o, E: Element, T: Measure<E>>(text: &mut Text<'o, E, T>, step: Step,
     requires few { length (pieces_of (taken_back step runs.now (text_places text.old))) ≤ text.old.limit }
     ensures places { text_places text.new ≡ taken_back step runs.now (text_places text.old) }
     ensures kept { Kept text.old text.new }
-    ensures measured { Measured E.breaks T.neutral T.value T.joined text.old → Measured E.breaks T.neutral T.value T.joined text.new }
 {
     match step {
-        Step::Insert {
-            offset,
-            length,
-            start: _,
-        } => text.remove(offset, length),
-        Step::Delete { offset, length: _ } => text.put_back(offset, runs),
-        Step::SetMark { name: _, mark: _ } => {}
-        Step::DropMark { name: _ } => {}
+        Step::Insert { offset, length, .. } => text.remove(offset, length),
+        Step::Delete { offset, .. } => text.put_back(offset, runs),
+        Step::SetMark { .. } | Step::DropMark { .. } => {}
     }
 }
 
@@ -50,7 +44,6 @@ impl<'o, E: Element, T: Measure<E>> Sheet<'o, E, T> {
         requires doable { Doable step self.old }
         ensures content { content_of self.new ≡ apply step (content_of self.old) }
         ensures kept { Kept self.old.text self.new.text }
-        ensures measured { Measured E.breaks T.neutral T.value T.joined self.old.text → Measured E.breaks T.neutral T.value T.joined self.new.text }
     {
         match step {
             Step::Insert {
@@ -78,7 +71,6 @@ impl<'o, E: Element, T: Measure<E>> Sheet<'o, E, T> {
         ensures runs { runs.new.items ≡ runs.old.items ++ kept_runs (Delete offset count) (content_of self.old) }
         ensures capacity { vec_capacity runs.new ≡ vec_capacity runs.old }
         ensures kept { Kept self.old.text self.new.text }
-        ensures measured { Measured E.breaks T.neutral T.value T.joined self.old.text → Measured E.breaks T.neutral T.value T.joined self.new.text }
     {
         self.text.remove_kept(offset, count, runs);
         self.marks.pull(offset, count);
@@ -89,7 +81,6 @@ impl<'o, E: Element, T: Measure<E>> Sheet<'o, E, T> {
         requires undoable { Undoable step marks runs.now self.old }
         ensures content { (before : Content) → MadeOf step marks runs.now self.old before → content_of self.new ≡ before }
         ensures kept { Kept self.old.text self.new.text }
-        ensures measured { Measured E.breaks T.neutral T.value T.joined self.old.text → Measured E.breaks T.neutral T.value T.joined self.new.text }
     {
         restore(&mut self.text, step, runs);
         self.marks = marks;

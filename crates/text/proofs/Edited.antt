@@ -1,5 +1,5 @@
 -- What a text's type says of its tree, before a change and after it. Assumes nothing.
-use Rattle.std.proofs.Common.{◌≡◌, ℕ, ◌+◌, ◌<◌, ◌≤◌, List, [], ◌∷◌, ◌++◌, length, take, drop, sym, ap, subst, arith, length-append, take-append-drop}
+use Rattle.std.proofs.Common.{◌≡◌, ℕ, Bool, ◌+◌, ◌<◌, ◌≤◌, List, [], ◌∷◌, ◌++◌, length, take, drop, sym, ap, subst, arith, length-append, take-append-drop}
 use Rattle.std.specs.List.{AllByRecursion as All}
 use Rattle.std.proofs.lemmas.List.{length-take, length-drop}
 use Rattle.ledger.specs.Places.{elements_at, pieces_of, source_list}
@@ -7,16 +7,22 @@ use Rattle.ledger.specs.declared.words.Piece.{Piece}
 use Rattle.ledger.specs.declared.words.Place.{Place}
 use Rattle.nodes.specs.declared.types.Tree.{Tree}
 use Rattle.nodes.specs.Trees.{items}
+use Rattle.pieces.specs.Faithful.{Faithful}
 use Rattle.pieces.specs.Spread.{places, spelled, AllFit, Standing}
 use Rattle.pieces.proofs.Elements.{source_long}
-use Rattle.pieces.proofs.Props.{untruncated}
 use Rattle.reading.proofs.Counting.{begins, count_cut, count_joint}
 use Rattle.reading.proofs.Longest.{Kept, all_some, count_items, fit_pieces}
 
 -- a standing tree, and an added source, under other names
-pub carried : {E T : Type 0} {original : ℕ} {old new : List E} {tree same : Tree Place T} → new ≡ old → same ≡ tree → ∥ Standing original (length old) tree ∥₁ → Standing original (length new) same
+pub carried : {E T : Type 0} {original : ℕ} {old new : List E} {tree same : Tree Place T} → new ≡ old → same ≡ tree → Standing original (length old) tree → Standing original (length new) same
 carried {original = original} {new = new} {tree = tree} added_is tree_is s =
-    subst (Standing original (length new)) (sym tree_is) (subst (λ xs. Standing original (length xs) tree) (sym added_is) (untruncated s))
+    subst (Standing original (length new)) (sym tree_is) (subst (λ xs. Standing original (length xs) tree) (sym added_is) s)
+
+-- a tree that carries what its elements have, under other names, and one that follows from it
+pub still_faithful : {E T : Type 0} (breaks : E → Bool) (neutral : T) (value : E → T) (joined : T → T → T) (original : List E) {old new : List E} {tree same : Tree Place T} (after : Tree Place T) → new ≡ old → same ≡ tree → Faithful breaks neutral value joined original old tree → (Faithful breaks neutral value joined original new same → Faithful breaks neutral value joined original new after) → Faithful breaks neutral value joined original old after
+still_faithful breaks neutral value joined original {new = new} {tree = tree} after added_is tree_is was follows =
+    let had = subst (λ xs. Faithful breaks neutral value joined original xs tree) (sym added_is) was in
+    subst (λ xs. Faithful breaks neutral value joined original xs after) added_is (follows (subst (Faithful breaks neutral value joined original new) (sym tree_is) had))
 
 -- a standing tree has as many items as its text has pieces
 pub count_of : {T : Type 0} {original added : ℕ} (tree : Tree Place T) → Standing original added tree → length (items tree) ≡ length (pieces_of (places tree))

@@ -5,7 +5,7 @@ ghost use Rattle.ledger.specs.declared.words.Source.TheVariants.{Original};
 ghost use Rattle.nodes.specs.Trees.{items, long};
 ghost use Rattle.pieces.specs.Faithful.{Faithful};
 ghost use Rattle.pieces.specs.Spread.{places, Standing};
-ghost use Rattle.text.specs.Texts.{places_owned, text_places, Measured};
+ghost use Rattle.text.specs.Texts.{places_owned, text_places};
 
 use crate::Text;
 use element::Element;
@@ -31,7 +31,6 @@ impl<'o, E: Element, T: Measure<E>> Text<'o, E, T> {
         ensures added { (result.added.items ≡ []) × (vec_capacity result.added ≡ vec_capacity added) }
         ensures limit { result.limit ≡ limit }
         ensures owned { places_owned result ≡ vec_len stock }
-        ensures measured { Measured E.breaks T.neutral T.value T.joined result }
     {
         let mut added = added;
         let mut stock = stock;

@@ -3,7 +3,7 @@ ghost use Rattle.std.specs.Prelude.{◌≡◌, ◌+◌, ◌^◌, ◌<◌, ◌≤
 ghost use Rattle.ledger.specs.Places.{elements_at, pieces_of, stretch};
 ghost use Rattle.ledger.specs.declared.words.Source.TheVariants.{Added};
 ghost use Rattle.pieces.specs.Spread.{spelled};
-ghost use Rattle.text.specs.Texts.{added_of, original_of, text_places, Kept, Measured};
+ghost use Rattle.text.specs.Texts.{added_of, original_of, text_places, Kept};
 
 use crate::Text;
 use element::Element;
@@ -22,7 +22,6 @@ impl<'o, E: Element, T: Measure<E>> Text<'o, E, T> {
         requires few { length (pieces_of (take offset (text_places self.old) ++ (stretch Added start count ++ drop offset (text_places self.old)))) ≤ self.old.limit }
         ensures places { text_places self.new ≡ take offset (text_places self.old) ++ (stretch Added start count ++ drop offset (text_places self.old)) }
         ensures kept { Kept self.old self.new }
-        ensures measured { Measured E.breaks T.neutral T.value T.joined self.old → Measured E.breaks T.neutral T.value T.joined self.new }
     {
         let first = Place {
             source: Source::Added,
@@ -47,7 +46,6 @@ impl<'o, E: Element, T: Measure<E>> Text<'o, E, T> {
         requires few { length (pieces_of (take offset (text_places self.old) ++ drop (offset + count) (text_places self.old))) ≤ self.old.limit }
         ensures places { text_places self.new ≡ take offset (text_places self.old) ++ drop (offset + count) (text_places self.old) }
         ensures kept { Kept self.old self.new }
-        ensures measured { Measured E.breaks T.neutral T.value T.joined self.old → Measured E.breaks T.neutral T.value T.joined self.new }
     {
         let tree = std::mem::replace(&mut self.tree, Tree::Empty);
         let (rest, part) = take_out(
@@ -73,7 +71,6 @@ impl<'o, E: Element, T: Measure<E>> Text<'o, E, T> {
         ensures runs { runs.new.items ≡ runs.old.items ++ pieces_of (take count (drop offset (text_places self.old))) }
         ensures capacity { vec_capacity runs.new ≡ vec_capacity runs.old }
         ensures kept { Kept self.old self.new }
-        ensures measured { Measured E.breaks T.neutral T.value T.joined self.old → Measured E.breaks T.neutral T.value T.joined self.new }
     {
         let tree = std::mem::replace(&mut self.tree, Tree::Empty);
         let (rest, part) = take_out(
@@ -98,7 +95,6 @@ impl<'o, E: Element, T: Measure<E>> Text<'o, E, T> {
         requires few { length (pieces_of (take offset (text_places self.old) ++ (spelled runs.now ++ drop offset (text_places self.old)))) ≤ self.old.limit }
         ensures places { text_places self.new ≡ take offset (text_places self.old) ++ (spelled runs.now ++ drop offset (text_places self.old)) }
         ensures kept { Kept self.old self.new }
-        ensures measured { Measured E.breaks T.neutral T.value T.joined self.old → Measured E.breaks T.neutral T.value T.joined self.new }
     {
         let tree = std::mem::replace(&mut self.tree, Tree::Empty);
         self.tree = put_back(

@@ -3,27 +3,33 @@
 
 ghost use Rattle.std.specs.Prelude.{◌+◌, ◌^◌, ◌<◌, ◌≤◌, length, vec_len, vec_capacity};
 ghost use Rattle.nodes.specs.Trees.{items, long};
+ghost use Rattle.pieces.specs.Faithful.{Faithful};
 ghost use Rattle.pieces.specs.Spread.{Standing};
+ghost use Rattle.pieces.proofs.Props.{standing_prop};
+ghost use Rattle.text.specs.Props.{faithful_prop};
 
 mod begin;
 mod changes;
 mod questions;
 mod sources;
 
+use element::Element;
 use ledger::words::Place;
+use measure::Measure;
 use nodes::{Node, Tree};
 
 // The read-only original, the added source, which grows at its end, and the pieces of both that the text is made of, in a
 // red-black tree. Each piece is a longest stretch. There are at most `limit` pieces, and eight tree places more than that,
 // in use or in stock, unless the limit is 0.
 #[derive(Drop)]
-pub struct Text<'o, E, T> {
+pub struct Text<'o, E: Element, T: Measure<E>> {
     original: &'o [E],
     added: Vec<E>,
     tree: Tree<Place, T>,
     stock: Vec<Box<Node<Place, T>>>,
     limit: usize,
-    ghost standing: { ∥ Standing (length original.now) (length added.items) tree ∥₁ },
+    ghost standing: { Standing (length original.now) (length added.items) tree } by { standing_prop (length original.now) (length added.items) tree },
+    ghost measured: { Faithful E.breaks T.neutral T.value T.joined original.now added.items tree } by { faithful_prop T.code E.breaks T.neutral T.value T.joined original.now added.items tree },
     ghost short: { long tree ≤ 2 ^ 24 },
     ghost few: { length (items tree) ≤ limit },
     ghost ample: { 0 < limit → limit + 8 ≤ vec_len stock + length (items tree) },

@@ -6,7 +6,7 @@ ghost use Rattle.ledger.specs.Answers.{Shallow};
 ghost use Rattle.ledger.specs.Places.{pieces_of, stretch};
 ghost use Rattle.ledger.specs.declared.words.Source.TheVariants.{Added};
 ghost use Rattle.reading.specs.LineParts.{line_found, part};
-ghost use Rattle.text.specs.Texts.{added_of, text_places, written, Measured};
+ghost use Rattle.text.specs.Texts.{added_of, text_places, written};
 
 use crate::Text;
 use element::Element;
@@ -90,14 +90,14 @@ impl<'o, E: Element, T: Measure<E>> Text<'o, E, T> {
 
     // The number of lines. A line ends with its break; a last line without one counts too.
     pub fn line_count(&self) -> usize
-        ensures { Measured E.breaks T.neutral T.value T.joined self.now → result ≡ length (lines E.breaks (written self.now)) }
+        ensures { result ≡ length (lines E.breaks (written self.now)) }
     {
         line_count(self.original, &self.added, &self.tree)
     }
 
     // A line's first offset and its length, where there is a line of this number.
     pub fn line(&self, number: usize) -> Option<(usize, usize)>
-        ensures { Measured E.breaks T.neutral T.value T.joined self.now → result ≡ line_found E.breaks (written self.now) number }
+        ensures { result ≡ line_found E.breaks (written self.now) number }
     {
         line(self.original, &self.added, &self.tree, number)
     }
@@ -105,7 +105,7 @@ impl<'o, E: Element, T: Measure<E>> Text<'o, E, T> {
     // The line that holds the element at an offset.
     pub fn line_of(&self, offset: usize) -> usize
         requires within { offset < length (text_places self.now) }
-        ensures { Measured E.breaks T.neutral T.value T.joined self.now → result ≡ length (lines E.breaks (take (suc offset) (written self.now))) }
+        ensures { result ≡ length (lines E.breaks (take (suc offset) (written self.now))) }
     {
         line_of(self.original, &self.added, &self.tree, offset)
     }
@@ -113,7 +113,7 @@ impl<'o, E: Element, T: Measure<E>> Text<'o, E, T> {
     // The total of the part from an offset up to another, which is left out.
     pub fn part_total(&self, from: usize, upto: usize) -> T
         requires within { (from ≤ upto) × (upto ≤ length (text_places self.now)) }
-        ensures { Measured E.breaks T.neutral T.value T.joined self.now → result ≡ total T.neutral T.value T.joined (part from upto (written self.now)) }
+        ensures { result ≡ total T.neutral T.value T.joined (part from upto (written self.now)) }
     {
         part_total(self.original, &self.added, &self.tree, from, upto)
     }

@@ -1,7 +1,7 @@
 // The added source: elements appended to it, and the last ones taken away again.
 ghost use Rattle.std.specs.Prelude.{◌≡◌, ◌+◌, ◌-◌, ◌^◌, ◌<◌, ◌≤◌, List, [], ◌∷◌, ◌++◌, length, take, vec_len, vec_capacity};
 ghost use Rattle.ledger.specs.Places.{elements_at};
-ghost use Rattle.text.specs.Texts.{added_of, original_of, text_places, written, Measured, SameText};
+ghost use Rattle.text.specs.Texts.{added_of, original_of, text_places, written, SameText};
 
 use crate::Text;
 use element::Element;
@@ -14,7 +14,6 @@ impl<'o, E: Element, T: Measure<E>> Text<'o, E, T> {
         ensures added { added_of self.new ≡ added_of self.old ++ new.now }
         ensures same { SameText self.old self.new }
         ensures written { written self.new ≡ written self.old }
-        ensures measured { Measured E.breaks T.neutral T.value T.joined self.old → Measured E.breaks T.neutral T.value T.joined self.new }
     {
         push_all(&mut self.added, new);
     }
@@ -26,7 +25,6 @@ impl<'o, E: Element, T: Measure<E>> Text<'o, E, T> {
         ensures added { added_of self.new ≡ take (vec_len self.old.added - count) (added_of self.old) }
         ensures same { SameText self.old self.new }
         ensures written { written self.new ≡ written self.old }
-        ensures measured { Measured E.breaks T.neutral T.value T.joined self.old → Measured E.breaks T.neutral T.value T.joined self.new }
     {
         let left = self.added.len() - count;
         self.added.truncate(left);

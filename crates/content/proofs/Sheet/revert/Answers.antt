@@ -20,5 +20,4 @@ returns g c =
     record {
       content = λ before made. content_again c.args.self.now c.args.marks c.args.step c.args.runs.now (text_places c.restore.new.text) before e.places made;
       kept = e.kept;
-      measured = e.measured;
     }

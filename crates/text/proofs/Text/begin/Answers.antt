@@ -1,5 +1,6 @@
 use Rattle.std.proofs.Common.{length, subst, arith}
 use Rattle.nodes.specs.Trees.{items}
+use Rattle.pieces.specs.Faithful.{Faithful}
 use Rattle.pieces.specs.Spread.{Standing}
 use Rattle.text.proofs.Sourced.{one_at_most}
 use Rattle.text.proofs.Text.begin.Goals as goal
@@ -11,4 +12,5 @@ invariant_of-result g c =
     let made = c.whole_tree-tree.ensures in
     let stands = subst (λ added. Standing (length original) (length added) tree) c.deref.ensures.value made.standing in
     let few = one_at_most (length original) (length (items tree)) c.args.limit made.few.0 made.few.1 c.requires.one in
-    record { standing = ∣ stands ∣₁; short = omega (arith, made.long, c.requires.short); few = few; ample = λ some. omega (arith, c.requires.ample some, made.stock); room = omega (arith, made.stock, made.capacity, c.args.stock.ok.1) }
+    let carries = subst (λ added. Faithful g.E.Element.breaks g.T.Total.neutral g.T.Measure.value g.T.Total.joined original added tree) c.deref.ensures.value made.faithful in
+    record { standing = stands; measured = carries; short = omega (arith, made.long, c.requires.short); few = few; ample = λ some. omega (arith, c.requires.ample some, made.stock); room = omega (arith, made.stock, made.capacity, c.args.stock.ok.1) }

@@ -4,17 +4,16 @@ use Rattle.ledger.specs.declared.words.Source.TheVariants.{Added}
 use Rattle.nodes.specs.Trees.{items, long}
 use Rattle.pieces.specs.Spread.{places, Standing}
 use Rattle.pieces.proofs.Spreads.{stretch_length}
-use Rattle.pieces.proofs.Props.{untruncated}
 use Rattle.reading.proofs.Changes.{long_places}
 use Rattle.text.specs.Texts.{text_places}
-use Rattle.text.proofs.Edited.{carried, count_of, some_pieces}
+use Rattle.text.proofs.Edited.{carried, count_of, some_pieces, still_faithful}
 use Rattle.text.proofs.Text.insert.Goals as goal
 
 pub insert_run-requires : goal.insert_run-requires
 insert_run-requires g c =
     let t = c.args.self.now in
     let tree_is = c.replace-tree.ensures.value in
-    let long_is : long c.replace-tree.result ≡ length (text_places t) = ap long tree_is ∙ sym (long_places t.tree (untruncated t.standing).weighed) in
+    let long_is : long c.replace-tree.result ≡ length (text_places t) = ap long tree_is ∙ sym (long_places t.tree t.standing.weighed) in
     let run = stretch Added c.args.start c.args.count in
     let after = take c.args.offset (text_places t) ++ (run ++ drop c.args.offset (text_places t)) in
     let long_run = stretch_length Added c.args.start c.args.count in
@@ -44,6 +43,6 @@ invariant_of-self g c =
     let after : places c.insert_run.result ≡ take x (text_places t) ++ (run ++ drop x (text_places t)) =
     e.places ∙ ap (λ u. take x (places u) ++ (run ++ drop x (places u))) tree_is in
     let count = count_of c.insert_run.result s in
-    let long_was = ap long tree_is ∙ sym (long_places t.tree (untruncated t.standing).weighed) in
+    let long_was = ap long tree_is ∙ sym (long_places t.tree t.standing.weighed) in
     let items_are = ap (λ u. length (items u)) tree_is in
-    record { standing = ∣ s ∣₁; short = omega (arith, e.long, long_was, c.requires.short); few = omega (arith, count, ap (λ ps. length (pieces_of ps)) after, c.requires.few); ample = λ some. omega (arith, t.ample some, e.stock, items_are); room = omega (arith, t.room, e.stock, e.capacity, items_are) }
+    record { standing = s; measured = still_faithful g.E.Element.breaks g.T.Total.neutral g.T.Measure.value g.T.Total.joined t.original.now c.insert_run.result c.deref.ensures.value tree_is t.measured e.faithful; short = omega (arith, e.long, long_was, c.requires.short); few = omega (arith, count, ap (λ ps. length (pieces_of ps)) after, c.requires.few); ample = λ some. omega (arith, t.ample some, e.stock, items_are); room = omega (arith, t.room, e.stock, e.capacity, items_are) }

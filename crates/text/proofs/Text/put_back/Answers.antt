@@ -2,17 +2,16 @@ use Rattle.std.proofs.Common.{◌≡◌, ◌++◌, length, take, drop, vec_items
 use Rattle.ledger.specs.Places.{pieces_of}
 use Rattle.nodes.specs.Trees.{items, long}
 use Rattle.pieces.specs.Spread.{places, spelled, AllFit, Standing}
-use Rattle.pieces.proofs.Props.{untruncated}
 use Rattle.reading.proofs.Changes.{long_places}
 use Rattle.text.specs.Texts.{text_places}
-use Rattle.text.proofs.Edited.{all_fit, carried, count_of, counted_between, some_pieces}
+use Rattle.text.proofs.Edited.{all_fit, carried, count_of, counted_between, some_pieces, still_faithful}
 use Rattle.reading.proofs.Counting.{pieces_few}
 use Rattle.text.proofs.Text.put_back.Goals as goal
 
 pub put_back-requires : goal.put_back-requires
 put_back-requires g c =
     let t = c.args.self.now in
-    let s = untruncated t.standing in
+    let s = t.standing in
     let tree_is = c.replace-tree.ensures.value in
     let long_is : long c.replace-tree.result ≡ length (text_places t) = ap long tree_is ∙ sym (long_places t.tree s.weighed) in
     let runs = c.args.runs.now in
@@ -44,6 +43,6 @@ invariant_of-self g c =
     subst (λ xs. Standing (length t.original.now) (length xs) c.put_back.result) c.deref.ensures.value e.standing in
     let after : places c.put_back.result ≡ take x (text_places t) ++ (runs ++ drop x (text_places t)) =
     e.places ∙ ap (λ u. take x (places u) ++ (runs ++ drop x (places u))) tree_is in
-    let long_was = ap long tree_is ∙ sym (long_places t.tree (untruncated t.standing).weighed) in
+    let long_was = ap long tree_is ∙ sym (long_places t.tree t.standing.weighed) in
     let items_are = ap (λ u. length (items u)) tree_is in
-    record { standing = ∣ s ∣₁; short = omega (arith, e.long, long_was, c.requires.short); few = omega (arith, count_of c.put_back.result s, ap (λ ps. length (pieces_of ps)) after, c.requires.few); ample = λ some. omega (arith, t.ample some, e.stock, items_are); room = omega (arith, t.room, e.stock, e.capacity, items_are) }
+    record { standing = s; measured = still_faithful g.E.Element.breaks g.T.Total.neutral g.T.Measure.value g.T.Total.joined t.original.now c.put_back.result c.deref.ensures.value tree_is t.measured e.faithful; short = omega (arith, e.long, long_was, c.requires.short); few = omega (arith, count_of c.put_back.result s, ap (λ ps. length (pieces_of ps)) after, c.requires.few); ample = λ some. omega (arith, t.ample some, e.stock, items_are); room = omega (arith, t.room, e.stock, e.capacity, items_are) }

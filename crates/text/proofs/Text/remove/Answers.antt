@@ -2,16 +2,15 @@ use Rattle.std.proofs.Common.{◌≡◌, ◌+◌, ◌++◌, length, take, drop, 
 use Rattle.ledger.specs.Places.{pieces_of}
 use Rattle.nodes.specs.Trees.{items, long}
 use Rattle.pieces.specs.Spread.{places, Standing}
-use Rattle.pieces.proofs.Props.{untruncated}
 use Rattle.reading.proofs.Changes.{long_places}
 use Rattle.text.specs.Texts.{text_places}
-use Rattle.text.proofs.Edited.{carried, count_of, some_pieces}
+use Rattle.text.proofs.Edited.{carried, count_of, some_pieces, still_faithful}
 use Rattle.text.proofs.Text.remove.Goals as goal
 
 pub take_out-rest-requires : goal.take_out-rest-requires
 take_out-rest-requires g c =
     let t = c.args.self.now in
-    let s = untruncated t.standing in
+    let s = t.standing in
     let tree_is = c.replace-tree.ensures.value in
     let long_is : long c.replace-tree.result ≡ length (text_places t) = ap long tree_is ∙ sym (long_places t.tree s.weighed) in
     let pieces = some_pieces (text_places t) (omega (arith, c.requires.some, c.requires.within)) in
@@ -37,4 +36,4 @@ invariant_of-self g c =
     e.rest ∙ ap (λ u. take x (places u) ++ drop (x + c.args.count) (places u)) tree_is in
     let items_are = ap (λ u. length (items u)) tree_is in
     let back = c.recycle.ensures in
-    record { standing = ∣ s ∣₁; short = omega (arith, e.long.0, ap long tree_is, t.short); few = omega (arith, count_of rest s, ap (λ ps. length (pieces_of ps)) after, c.requires.few); ample = λ some. omega (arith, t.ample some, e.stock, back.len, items_are); room = omega (arith, t.room, e.stock, e.capacity, back.len, back.capacity, items_are) }
+    record { standing = s; measured = still_faithful g.E.Element.breaks g.T.Total.neutral g.T.Measure.value g.T.Total.joined t.original.now rest c.deref.ensures.value tree_is t.measured e.faithful; short = omega (arith, e.long.0, ap long tree_is, t.short); few = omega (arith, count_of rest s, ap (λ ps. length (pieces_of ps)) after, c.requires.few); ample = λ some. omega (arith, t.ample some, e.stock, back.len, items_are); room = omega (arith, t.room, e.stock, e.capacity, back.len, back.capacity, items_are) }

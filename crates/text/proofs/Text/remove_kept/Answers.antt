@@ -2,17 +2,16 @@ use Rattle.std.proofs.Common.{◌≡◌, ◌+◌, ◌++◌, length, take, drop, 
 use Rattle.ledger.specs.Places.{pieces_of}
 use Rattle.nodes.specs.Trees.{items, long}
 use Rattle.pieces.specs.Spread.{places, Standing}
-use Rattle.pieces.proofs.Props.{untruncated}
 use Rattle.reading.proofs.Longest.{longest}
 use Rattle.reading.proofs.Changes.{long_places}
 use Rattle.text.specs.Texts.{text_places}
-use Rattle.text.proofs.Edited.{carried, count_of, some_pieces}
+use Rattle.text.proofs.Edited.{carried, count_of, some_pieces, still_faithful}
 use Rattle.text.proofs.Text.remove_kept.Goals as goal
 
 pub take_out-rest-requires : goal.take_out-rest-requires
 take_out-rest-requires g c =
     let t = c.args.self.now in
-    let s = untruncated t.standing in
+    let s = t.standing in
     let tree_is = c.replace-tree.ensures.value in
     let long_is : long c.replace-tree.result ≡ length (text_places t) = ap long tree_is ∙ sym (long_places t.tree s.weighed) in
     let pieces = some_pieces (text_places t) (omega (arith, c.requires.some, c.requires.within)) in
@@ -52,7 +51,7 @@ invariant_of-self g c =
     e.rest ∙ ap (λ u. take x (places u) ++ drop (x + c.args.count) (places u)) tree_is in
     let items_are = ap (λ u. length (items u)) tree_is in
     let back = c.keep_runs.ensures in
-    record { standing = ∣ s ∣₁; short = omega (arith, e.long.0, ap long tree_is, t.short); few = omega (arith, count_of rest s, ap (λ ps. length (pieces_of ps)) after, c.requires.few); ample = λ some. omega (arith, t.ample some, e.stock, back.stock, items_are); room = omega (arith, t.room, e.stock, e.capacity, back.stock, back.capacity.0, items_are) }
+    record { standing = s; measured = still_faithful g.E.Element.breaks g.T.Total.neutral g.T.Measure.value g.T.Total.joined t.original.now rest c.deref.ensures.value tree_is t.measured e.faithful; short = omega (arith, e.long.0, ap long tree_is, t.short); few = omega (arith, count_of rest s, ap (λ ps. length (pieces_of ps)) after, c.requires.few); ample = λ some. omega (arith, t.ample some, e.stock, back.stock, items_are); room = omega (arith, t.room, e.stock, e.capacity, back.stock, back.capacity.0, items_are) }
 
 pub returns : goal.returns
 returns g c =
@@ -70,5 +69,4 @@ returns g c =
       runs = back.runs ∙ ap (λ ps. vec_items c.args.runs.now ++ ps) (kept ∙ ap pieces_of spelled);
       capacity = back.capacity.1;
       kept = search rules;
-      measured = search rules;
     }

@@ -1,7 +1,6 @@
 -- That the marks of a text lie in it stands in one way only: any two proofs of it are equal. Assumes nothing.
 use mathlib.Core.HLevel.{Unit-prop}
 use Rattle.std.proofs.Common.{ℕ, ◌≤◌, List, [], ◌∷◌, length, Some, None, Option}
-use mathlib.Core.Logic.{∥∥₁_elim}
 use native.Mathlib.Bridge.{le_prop}
 use Rattle.ledger.specs.Steps.{Content}
 use Rattle.ledger.specs.declared.words.Mark.{Mark}
@@ -16,6 +15,5 @@ within_prop bound [] x y = Unit-prop x y
 within_prop bound (entry ∷ more) x y =
     λ i. (where_prop bound entry x.0 y.0 i, within_prop bound more x.1 y.1 i)
 
--- so what is known behind a truncation is known
-pub untruncated : (c : Content) → ∥ Inside c ∥₁ → Inside c
-untruncated c known = ∥∥₁_elim known (within_prop (length c.places) c.marks) (λ it. it)
+pub inside_prop : (c : Content) → IsProp (Inside c)
+inside_prop c = within_prop (length c.places) c.marks
