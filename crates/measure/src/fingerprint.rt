@@ -1,9 +1,12 @@
 ghost use Rattle.std.specs.Prelude.{◌≡◌};
-ghost use Rattle.measure.specs.Fingerprints.{bytes_joined, fingerprint, no_bytes, one_byte};
+ghost use Rattle.measure.specs.Fingerprints.{bytes_joined, no_bytes, one_byte};
 ghost use Rattle.measure.specs.FingerprintsLemmas.{bytes_monoid};
 
-use super::{Fingerprint, MODULUS, Measure, Total};
+use super::{Fingerprint, Measure, Total};
 use element::Element;
+
+// The power of one element.
+const BASE: u32 = 31;
 
 impl Total for Fingerprint {
     ghost neutral = { no_bytes };
@@ -13,15 +16,15 @@ impl Total for Fingerprint {
     ghost monoid = { bytes_monoid };
 
     fn empty() -> Fingerprint {
-        reduced(1, 0)
+        Fingerprint { power: 1, value: 0 }
     }
 
     fn join(self, after: Fingerprint) -> Fingerprint {
-        let raised = u64::from(self.value) * u64::from(after.power);
-        reduced(
-            u64::from(self.power) * u64::from(after.power),
-            raised + u64::from(after.value),
-        )
+        let raised = self.value.wrapping_mul(after.power);
+        Fingerprint {
+            power: self.power.wrapping_mul(after.power),
+            value: raised.wrapping_add(after.value),
+        }
     }
 }
 
@@ -29,16 +32,9 @@ impl<E: Element> Measure<E> for Fingerprint {
     ghost value = { λ e. one_byte (E.shown e) };
 
     fn of(element: &E) -> Fingerprint {
-        reduced(31, u64::from(element.shown_byte()) + 1)
-    }
-}
-
-// The fingerprint of a power and a value, modulo 2^32.
-fn reduced(power: u64, value: u64) -> Fingerprint
-    ensures { result ≡ fingerprint power value }
-{
-    Fingerprint {
-        power: (power % MODULUS) as u32,
-        value: (value % MODULUS) as u32,
+        Fingerprint {
+            power: BASE,
+            value: u32::from(element.shown_byte()) + 1,
+        }
     }
 }
