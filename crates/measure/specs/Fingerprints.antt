@@ -2,7 +2,7 @@
 use Rattle.std.specs.Prelude.{ℕ, ◌+◌, ◌*◌, ◌%◌, ◌^◌}
 use Rattle.std.proofs.Common.{lit<}
 use Rattle.std.proofs.lemmas.Nat.{mod_below}
-use Rattle.measure.specs.declared.types.Fingerprint.{Fingerprint}
+use Rattle.measure.specs.declared.fingerprint.Fingerprint.{Fingerprint}
 
 -- a power and a value, modulo 2^32
 abbrev pub fingerprint : ℕ → ℕ → Fingerprint

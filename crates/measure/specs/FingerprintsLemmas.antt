@@ -7,7 +7,7 @@ use Rattle.std.proofs.Math.Nat.{add-mod-mod}
 use Rattle.std.proofs.lemmas.Nat.{mul-mod_first, mul-mod_second}
 use Rattle.measure.specs.Fingerprints.{no_bytes, bytes_joined}
 use Rattle.measure.specs.Totals.{Monoid}
-use Rattle.measure.specs.declared.types.Fingerprint.{Fingerprint}
+use Rattle.measure.specs.declared.fingerprint.Fingerprint.{Fingerprint}
 use Rattle.measure.specs.Modular.{mod_left_add, mod_right_add}
 
 -- a fingerprint is its power and its value

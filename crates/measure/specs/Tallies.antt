@@ -2,7 +2,7 @@
 use Rattle.std.specs.Prelude.{ℕ, ◌+◌, ◌%◌, ◌^◌, if◌then◌else◌, nat_lt}
 use Rattle.std.proofs.Common.{lit<}
 use Rattle.std.proofs.lemmas.Nat.{mod_below}
-use Rattle.measure.specs.declared.types.Tally.{Tally}
+use Rattle.measure.specs.declared.tally.Tally.{Tally}
 
 abbrev pub tally : ℕ → Tally
 tally count = record { count = count % 2 ^ 32; modular = mod_below count (2 ^ 32) (lit< tt) }

@@ -6,7 +6,7 @@ use Rattle.std.proofs.Math.Bridge.{le_prop}
 use Rattle.std.proofs.Math.Nat.{mod-add-mod, add-mod-mod}
 use Rattle.measure.specs.Tallies.{none_typed, typed_joined}
 use Rattle.measure.specs.Totals.{Monoid}
-use Rattle.measure.specs.declared.types.Tally.{Tally}
+use Rattle.measure.specs.declared.tally.Tally.{Tally}
 
 -- a tally is its count
 pub same_tally : (x y : Tally) → x.count ≡ y.count → x ≡ y

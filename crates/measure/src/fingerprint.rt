@@ -1,14 +1,25 @@
-ghost use Rattle.std.specs.Prelude.{◌≡◌};
-ghost use Rattle.measure.specs.Fingerprints.{bytes_joined, no_bytes, one_byte};
-ghost use Rattle.measure.specs.FingerprintsLemmas.{bytes_monoid};
+ghost use Rattle.std.specs.Prelude.{◌≡◌, ◌^◌, ◌<◌};
 
-use super::{Fingerprint, Measure, Total};
+use super::{Measure, Total};
 use element::Element;
 
 // The power of one element.
 const BASE: u32 = 31;
 
+// A polynomial fingerprint of shown bytes, modulo 2^32: the value of a part, and the power of the base by which the
+// value of what stands before the part is multiplied when the two are joined.
+#[derive(Clone, Copy, Debug, PartialEq, Eq)]
+pub struct Fingerprint {
+    pub power: u32,
+    pub value: u32,
+    ghost power_modular: { power < 2 ^ 32 },
+    ghost value_modular: { value < 2 ^ 32 },
+}
+
 impl Total for Fingerprint {
+    ghost use Rattle.measure.specs.Fingerprints.{bytes_joined, no_bytes};
+    ghost use Rattle.measure.specs.FingerprintsLemmas.{bytes_monoid};
+
     ghost neutral = { no_bytes };
 
     ghost joined = { bytes_joined };
@@ -29,6 +40,8 @@ impl Total for Fingerprint {
 }
 
 impl<E: Element> Measure<E> for Fingerprint {
+    ghost use Rattle.measure.specs.Fingerprints.{one_byte};
+
     ghost value = { λ e. one_byte (E.shown e) };
 
     fn of(element: &E) -> Fingerprint {

@@ -8,9 +8,10 @@ ghost use Rattle.measure.specs.Totals.{Monoid, total};
 mod fingerprint;
 mod pair;
 mod tally;
-mod types;
 
-pub use types::{Fingerprint, Pair, Tally};
+pub use fingerprint::Fingerprint;
+pub use pair::Pair;
+pub use tally::Tally;
 
 // The totals of a measure: what they are for no elements, and for two parts, one after the other. What keeps totals of
 // parts needs no more than this, and knows no elements.
