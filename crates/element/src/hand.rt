@@ -12,7 +12,7 @@ impl Hand {
 
     pub const TOP: u8 = 15;
 
-    // The hand of a number, or the top hand where the number is above it.
+    // The hand of a number, or the top hand where the number is above it: this caps, so it is no `From`.
     pub fn new(number: u8) -> Hand
         ensures { result ≡ hand_of number }
     {

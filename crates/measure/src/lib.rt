@@ -93,14 +93,11 @@ mod tests {
             Cell::make(b'\n', 15),
         ];
         let both: Pair<Fingerprint, Tally> = fold(&cells);
-        let second = Tally { count: 2 };
-        assert_eq!(rt;
-            both,
-            Pair {
-                first: FIRST_LINE,
-                second
-            }
-        );
+        let wanted = Pair {
+            first: FIRST_LINE,
+            second: Tally { count: 2 },
+        };
+        assert_eq!(rt; both, wanted);
     }
 
     #[test]
