@@ -1,11 +1,11 @@
-ghost use Rattle.std.specs.Prelude.{◌≡◌, ℕ, min, ◌==◌};
-ghost use Rattle.element.specs.Cells.{cell_of, hand_of};
+ghost use Rattle.std.specs.Prelude.{◌==◌};
+ghost use Rattle.element.specs.Cells.{cell_of};
 ghost use Rattle.std.proofs.Common.{rules};
 
 use super::{Element, Hand};
 
 // A byte together with the hand that typed it.
-#[derive(Clone, Copy)]
+#[derive(Clone, Copy, Debug, PartialEq, Eq)]
 pub struct Cell {
     pub shown: u8,
     pub hand: Hand,
@@ -29,7 +29,7 @@ impl Element for Cell {
     ghost made_typist = { Prim.search rules };
 
     fn is_break(&self) -> bool {
-        <u8 as Element>::is_break(&self.shown)
+        self.shown.is_break()
     }
 
     fn shown_byte(&self) -> u8 {
@@ -37,7 +37,7 @@ impl Element for Cell {
     }
 
     fn hand(&self) -> u8 {
-        self.hand.number()
+        u8::from(self.hand)
     }
 
     fn top_hand() -> u8 {
@@ -47,14 +47,7 @@ impl Element for Cell {
     fn make(byte: u8, hand: u8) -> Cell {
         Cell {
             shown: byte,
-            hand: capped(hand),
+            hand: Hand::new(hand),
         }
     }
-}
-
-// The hand of a number, the top hand where the number is above it.
-fn capped(number: u8) -> Hand
-    ensures { result ≡ hand_of number }
-{
-    Hand::new(number)
 }

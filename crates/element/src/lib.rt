@@ -97,7 +97,8 @@ mod tests {
 
     #[test]
     fn a_byte_shows_itself(rt: HostRuntime) {
-        let made: u8 = <u8 as Element>::make(b'x', 9);
+        let made = u8::make(b'x', 9);
+        assert_eq!(rt; made, b'x');
         assert_eq!(rt; made.shown_byte(), b'x');
         assert_eq!(rt; made.hand(), 0);
         assert!(rt; !made.is_break());
@@ -107,11 +108,19 @@ mod tests {
 
     #[test]
     fn a_cell_keeps_its_hand_up_to_fifteen(rt: HostRuntime) {
-        assert_eq!(rt; <Cell as Element>::make(b'x', 14).hand(), 14);
-        assert_eq!(rt; <Cell as Element>::make(b'x', 15).hand(), 15);
-        assert_eq!(rt; <Cell as Element>::make(b'x', 16).hand(), 15);
-        assert_eq!(rt; <Cell as Element>::make(b'x', 255).hand(), 15);
-        assert!(rt; <Cell as Element>::make(b'\n', 1).is_break());
-        assert!(rt; !<Cell as Element>::make(0, 10).is_break());
+        assert_eq!(rt; Cell::make(b'x', 14).hand(), 14);
+        assert_eq!(rt; Cell::make(b'x', 15).hand(), 15);
+        assert_eq!(rt; Cell::make(b'x', 16).hand(), 15);
+        assert_eq!(rt; Cell::make(b'x', 255).hand(), 15);
+        assert!(rt; Cell::make(b'\n', 1).is_break());
+        assert!(rt; !Cell::make(0, 10).is_break());
+    }
+
+    #[test]
+    fn cells_are_equal_by_byte_and_hand(rt: HostRuntime) {
+        assert_eq!(rt; Cell::make(b'x', 16), Cell::make(b'x', 15));
+        assert_ne!(rt; Cell::make(b'x', 14), Cell::make(b'x', 15));
+        assert_ne!(rt; Cell::make(b'x', 1), Cell::make(b'y', 1));
+        assert_eq!(rt; u8::from(Hand::new(7)), 7);
     }
 }

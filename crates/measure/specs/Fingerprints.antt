@@ -2,11 +2,16 @@
 use Rattle.std.specs.Prelude.{ℕ, ◌+◌, ◌*◌, ◌%◌, ◌^◌}
 use Rattle.std.proofs.Common.{lit<}
 use Rattle.std.proofs.lemmas.Nat.{mod_below}
-use Rattle.measure.specs.declared.types.Fingerprint.{Fingerprint}
+use Rattle.measure.specs.declared.fingerprint.Fingerprint.{Fingerprint}
 
 -- a power and a value, modulo 2^32
 abbrev pub fingerprint : ℕ → ℕ → Fingerprint
-fingerprint power value = record { power = power % 2 ^ 32; value = value % 2 ^ 32; modular = (mod_below power (2 ^ 32) (lit< tt), mod_below value (2 ^ 32) (lit< tt)) }
+fingerprint power value = record {
+  power = power % 2 ^ 32;
+  value = value % 2 ^ 32;
+  power_modular = mod_below power (2 ^ 32) (lit< tt);
+  value_modular = mod_below value (2 ^ 32) (lit< tt);
+}
 
 abbrev pub no_bytes : Fingerprint
 no_bytes = fingerprint 1 0

@@ -1,8 +1,8 @@
 -- Tallies: how many elements have a hand above 0, modulo 2^32. Assumes nothing.
-use Rattle.std.specs.Prelude.{ℕ, ◌+◌, ◌%◌, ◌^◌, cond, nat_lt}
+use Rattle.std.specs.Prelude.{ℕ, ◌+◌, ◌%◌, ◌^◌, if◌then◌else◌, nat_lt}
 use Rattle.std.proofs.Common.{lit<}
 use Rattle.std.proofs.lemmas.Nat.{mod_below}
-use Rattle.measure.specs.declared.types.Tally.{Tally}
+use Rattle.measure.specs.declared.tally.Tally.{Tally}
 
 abbrev pub tally : ℕ → Tally
 tally count = record { count = count % 2 ^ 32; modular = mod_below count (2 ^ 32) (lit< tt) }
@@ -11,7 +11,7 @@ abbrev pub none_typed : Tally
 none_typed = tally 0
 
 abbrev pub one_typed : ℕ → Tally
-one_typed hand = tally (cond (nat_lt 0 hand) 1 0)
+one_typed hand = tally (if nat_lt 0 hand then 1 else 0)
 
 abbrev pub typed_joined : Tally → Tally → Tally
 typed_joined x y = tally (x.count + y.count)

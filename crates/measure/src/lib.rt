@@ -8,12 +8,10 @@ ghost use Rattle.measure.specs.Totals.{Monoid, total};
 mod fingerprint;
 mod pair;
 mod tally;
-mod types;
 
-pub use types::{Fingerprint, Pair, Tally};
-
-// Fingerprints and tallies are numbers modulo 2^32.
-const MODULUS: u64 = 1 << 32;
+pub use fingerprint::Fingerprint;
+pub use pair::Pair;
+pub use tally::Tally;
 
 // The totals of a measure: what they are for no elements, and for two parts, one after the other. What keeps totals of
 // parts needs no more than this, and knows no elements.
@@ -46,20 +44,11 @@ pub trait Measure<E>: Total {
 // The total of a part. Wherever the part is cut in two, it is also the join of the totals of both.
 pub fn fold<E, T: Measure<E>>(part: &[E]) -> T
     ensures whole { result ≡ total T.neutral T.value T.joined part.now }
-    ensures cut { (front back : List E) → part.now ≡ front ++ back → result ≡ T.joined (total T.neutral T.value T.joined front) (total T.neutral T.value T.joined back) }
+    ensures cut { (front back : List E) → part.now ≡ front ++ back
+        → result ≡ T.joined (total T.neutral T.value T.joined front) (total T.neutral T.value T.joined back) }
 {
-    let mut sum = T::empty();
-    for element in part {
-        sum = extended(sum, element);
-    }
-    sum
-}
-
-// The total of a part and of one element after it.
-fn extended<E, T: Measure<E>>(sum: T, element: &E) -> T
-    ensures { result ≡ T.joined sum (T.value element.now) }
-{
-    sum.join(T::of(element))
+    part.iter()
+        .fold(T::empty(), |sum, element| sum.join(T::of(element)))
 }
 
 #[cfg(test)]
@@ -67,43 +56,60 @@ mod tests {
     use super::*;
     use element::{Cell, Element};
 
-    const COPY: [u8; 6] = [97, 98, 10, 99, 100, 10];
+    const COPY: &[u8] = b"ab\ncd\n";
+
+    const FIRST_LINE: Fingerprint = Fingerprint {
+        power: 29791,
+        value: 97258,
+    };
 
     #[test]
     fn an_empty_part_has_the_empty_total(rt: HostRuntime) {
-        let none: Fingerprint = fold(&COPY[0..0]);
-        assert_eq!(rt; none.power, 1);
-        assert_eq!(rt; none.value, 0);
+        let none: Fingerprint = fold(&COPY[..0]);
+        assert_eq!(rt; none, Fingerprint { power: 1, value: 0 });
     }
 
     #[test]
     fn the_first_line_has_its_fingerprint(rt: HostRuntime) {
-        let line: Fingerprint = fold(&COPY[0..3]);
-        assert_eq!(rt; line.value, 97258);
-        assert_eq!(rt; line.power, 29791);
+        let line: Fingerprint = fold(&COPY[..3]);
+        assert_eq!(rt; line, FIRST_LINE);
     }
 
     #[test]
     fn totals_of_parts_join_to_that_of_the_whole(rt: HostRuntime) {
-        let whole: Fingerprint = fold(&COPY);
-        for cut in 0..7usize {
-            let front: Fingerprint = fold(&COPY[0..cut]);
-            let back: Fingerprint = fold(&COPY[cut..6]);
-            let joined = front.join(back);
-            assert_eq!(rt; joined.value, whole.value);
-            assert_eq!(rt; joined.power, whole.power);
+        let whole: Fingerprint = fold(COPY);
+        for cut in 0..=COPY.len() {
+            let (front, back) = COPY.split_at(cut);
+            let joined = fold::<u8, Fingerprint>(front).join(fold(back));
+            assert_eq!(rt; joined, whole);
         }
     }
 
     #[test]
     fn a_tally_counts_the_hands_above_zero(rt: HostRuntime) {
-        let cells: [Cell; 3] = [
-            <Cell as Element>::make(97, 0),
-            <Cell as Element>::make(98, 1),
-            <Cell as Element>::make(10, 15),
+        let cells = [
+            Cell::make(b'a', 0),
+            Cell::make(b'b', 1),
+            Cell::make(b'\n', 15),
         ];
         let both: Pair<Fingerprint, Tally> = fold(&cells);
-        assert_eq!(rt; both.first.value, 97258);
-        assert_eq!(rt; both.second.count, 2);
+        let wanted = Pair {
+            first: FIRST_LINE,
+            second: Tally { count: 2 },
+        };
+        assert_eq!(rt; both, wanted);
+    }
+
+    #[test]
+    fn totals_are_joined_modulo_two_to_the_32(rt: HostRuntime) {
+        let top = Fingerprint {
+            power: u32::MAX,
+            value: u32::MAX,
+        };
+        assert_eq!(rt; top.join(top), Fingerprint { power: 1, value: 0 });
+        assert_eq!(rt;
+            Tally { count: u32::MAX }.join(Tally { count: 2 }),
+            Tally { count: 1 }
+        );
     }
 }

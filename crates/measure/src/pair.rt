@@ -2,7 +2,14 @@ ghost use Rattle.std.specs.Prelude.{◌≡◌};
 ghost use Rattle.measure.specs.Pairs.{side_by_side};
 ghost use Rattle.std.proofs.Common.{rules};
 
-use super::{Measure, Pair, Total};
+use super::{Measure, Total};
+
+// Two totals side by side.
+#[derive(Clone, Copy, Debug, PartialEq, Eq)]
+pub struct Pair<A, B> {
+    pub first: A,
+    pub second: B,
+}
 
 impl<A: Total, B: Total> Total for Pair<A, B> {
     ghost neutral = { side_by_side A.Total.neutral B.Total.neutral };

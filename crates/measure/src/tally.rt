@@ -1,11 +1,19 @@
-ghost use Rattle.std.specs.Prelude.{◌≡◌};
-ghost use Rattle.measure.specs.Tallies.{none_typed, one_typed, tally, typed_joined};
-ghost use Rattle.measure.specs.TalliesLemmas.{typed_monoid};
+ghost use Rattle.std.specs.Prelude.{◌≡◌, ◌^◌, ◌<◌};
 
-use super::{MODULUS, Measure, Tally, Total};
+use super::{Measure, Total};
 use element::Element;
 
+// The number of elements whose hand is above 0, modulo 2^32.
+#[derive(Clone, Copy, Debug, PartialEq, Eq)]
+pub struct Tally {
+    pub count: u32,
+    ghost modular: { count < 2 ^ 32 },
+}
+
 impl Total for Tally {
+    ghost use Rattle.measure.specs.Tallies.{none_typed, typed_joined};
+    ghost use Rattle.measure.specs.TalliesLemmas.{typed_monoid};
+
     ghost neutral = { none_typed };
 
     ghost joined = { typed_joined };
@@ -13,28 +21,24 @@ impl Total for Tally {
     ghost monoid = { typed_monoid };
 
     fn empty() -> Tally {
-        reduced(0)
+        Tally { count: 0 }
     }
 
     fn join(self, after: Tally) -> Tally {
-        reduced(u64::from(self.count) + u64::from(after.count))
+        Tally {
+            count: self.count.wrapping_add(after.count),
+        }
     }
 }
 
 impl<E: Element> Measure<E> for Tally {
+    ghost use Rattle.measure.specs.Tallies.{one_typed};
+
     ghost value = { λ e. one_typed (E.typist e) };
 
     fn of(element: &E) -> Tally {
-        let typed = if element.hand() > 0 { 1 } else { 0 };
-        reduced(typed)
-    }
-}
-
-// The tally of a count, modulo 2^32.
-fn reduced(count: u64) -> Tally
-    ensures { result ≡ tally count }
-{
-    Tally {
-        count: (count % MODULUS) as u32,
+        Tally {
+            count: u32::from(element.hand() > 0),
+        }
     }
 }

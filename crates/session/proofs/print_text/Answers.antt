@@ -2,9 +2,9 @@ use Rattle.std.proofs.Common.{◌≡◌, ℕ, List, map, ap, ◌∙◌}
 use Rattle.std.proofs.lemmas.Result.{IfOk-weaker}
 use Rattle.measure.specs.Fingerprints.{no_bytes, one_byte, bytes_joined}
 use Rattle.measure.specs.Tallies.{none_typed, one_typed, typed_joined}
-use Rattle.measure.specs.declared.types.Fingerprint.{Fingerprint}
-use Rattle.measure.specs.declared.types.Pair.{Pair}
-use Rattle.measure.specs.declared.types.Tally.{Tally}
+use Rattle.measure.specs.declared.fingerprint.Fingerprint.{Fingerprint}
+use Rattle.measure.specs.declared.pair.Pair.{Pair}
+use Rattle.measure.specs.declared.tally.Tally.{Tally}
 use Rattle.measure.proofs.Totals.{total_pair}
 use Rattle.printing.specs.Numerals.{totals_line}
 use Rattle.session.specs.Report.{totals_of}
