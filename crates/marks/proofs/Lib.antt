@@ -1,3 +1,3 @@
 pub mod Kept
-pub mod Swept
+pub mod Mapped
 pub mod Replayed
