@@ -1,7 +1,7 @@
 -- What holds of each mark of a list, and how it goes on. Assumes nothing.
-use Rattle.std.proofs.Common.{◌≡◌, ℕ, ◌+◌, ◌-◌, ◌^◌, ◌<◌, ◌≤◌, Bool, true, false, cond, ◌&&◌, ◌||◌, eqb, ltb, leb, List, map, length, get_or, set, replicate, Some, None, Option, arith}
+use Rattle.std.proofs.Common.{◌≡◌, ℕ, ◌+◌, ◌-◌, ◌^◌, ◌<◌, ◌≤◌, Bool, true, false, cond, ◌&&◌, ◌||◌, eqb, ltb, leb, List, map, set, replicate, Some, None, Option, arith}
 use Rattle.std.proofs.lemmas.Bool.{cond_both, leb-true}
-use Rattle.std.proofs.lemmas.List.Elements.{All-from_recursion, recursion_from_All, All-get_or, All-map, All-replicate, All-set, All-weaker}
+use Rattle.std.proofs.lemmas.List.Elements.{All-from_recursion, recursion_from_All, All-map, All-replicate, All-set, All-weaker}
 use Rattle.std.proofs.lemmas.Option.{IfSome_then}
 use Rattle.std.specs.Option.{option_map}
 use Rattle.ledger.specs.Steps.{is_right, shifted, pulled}
@@ -27,11 +27,7 @@ module _ (Before After : Mark → Type 0) (f : Mark → Mark) (step : (m : Mark)
       (All-map (Where After) moved ms (All-weaker (Where Before) (λ entry. Where After (moved entry)) where_mapped ms (All-from_recursion (Where Before) ms h)))
 
 module _ (Holds : Mark → Type 0) where
-  -- a property of each mark holds of the entry at an index
-  pub each_at : (ms : List (Option Mark)) (i : ℕ) (default : Option Mark) → i < length ms → Each Holds ms → Where Holds (get_or ms i default)
-  each_at ms i default lt h = All-get_or (Where Holds) ms i default lt (All-from_recursion (Where Holds) ms h)
-
-  -- it still holds of each where it holds of an entry that is put in
+  -- a property of each mark still holds of each where it holds of an entry that is put in
   pub each_set : (ms : List (Option Mark)) (i : ℕ) (entry : Option Mark) → Where Holds entry → Each Holds ms → Each Holds (set ms i entry)
   each_set ms i entry w h = recursion_from_All (Where Holds) (set ms i entry) (All-set (Where Holds) ms i entry w (All-from_recursion (Where Holds) ms h))
 

@@ -21,9 +21,6 @@ AllWithin bound = Each (λ m. m.offset.0 ≤ bound)
 abbrev pub Inside : Content → Type 0
 Inside c = AllWithin (length c.places) c.marks
 
--- the offset has room for `count` more
-abbrev pub Shiftable : ℕ → Option Mark → Type 0
-Shiftable count = Where (λ m. m.offset.0 + count < 2 ^ 64)
-
+-- the offset of each mark that is there has room for `count` more
 abbrev pub AllShiftable : ℕ → List (Option Mark) → Type 0
 AllShiftable count = Each (λ m. m.offset.0 + count < 2 ^ 64)

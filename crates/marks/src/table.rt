@@ -3,8 +3,9 @@ ghost use Rattle.std.specs.Prelude.{◌≡◌, ◌+◌, ◌-◌, ◌^◌, ◌<�
 ghost use Rattle.std.specs.Option.{option_map};
 ghost use Rattle.ledger.specs.Names.{is_name};
 ghost use Rattle.ledger.specs.Steps.{mark_of, shifted, pulled};
-ghost use Rattle.marks.specs.Bounds.{Shiftable, AllShiftable};
-ghost use Rattle.marks.specs.Tables.{marks_of};
+ghost use Rattle.ledger.specs.declared.words.Mark.{Mark};
+ghost use Rattle.marks.specs.Bounds.{Each, AllShiftable};
+ghost use Rattle.marks.specs.Tables.{marks_of, Computes};
 
 use crate::moving::{after_delete, after_insert};
 use ledger::words::Mark;
@@ -14,6 +15,18 @@ use ledger::words::Mark;
 #[derive(Clone, Copy, PartialEq, Eq, Debug)]
 pub struct Marks {
     entries: [Option<Mark>; 26],
+}
+
+// Changes each mark that is there, in place: the library's `map` of an array makes a new one and takes several times as long.
+fn change_each<F: Fn(Mark) -> Mark>(entries: &mut [Option<Mark>], change: F)
+    requires { Each (F.pre change) entries.old }
+    ensures { (f : Mark → Mark) → Computes (F.post change) f → entries.new ≡ map (option_map f) entries.old }
+{
+    for entry in entries.iter_mut() {
+        if let Some(mark) = entry {
+            *mark = change(*mark);
+        }
+    }
 }
 
 impl Marks {
@@ -48,8 +61,7 @@ impl Marks {
         requires { AllShiftable count (marks_of self.old) }
         ensures { marks_of self.new ≡ map (option_map (shifted offset count)) (marks_of self.old) }
     {
-        let moved = |mark| after_insert(mark, offset, count);
-        self.entries = self.entries.map(|entry| entry.map(moved));
+        change_each(&mut self.entries, |mark| after_insert(mark, offset, count));
     }
 
     // Moves the marks by a delete of `count` elements at `offset`.
@@ -57,7 +69,6 @@ impl Marks {
         requires { offset + count < 2 ^ 64 }
         ensures { marks_of self.new ≡ map (option_map (pulled offset count)) (marks_of self.old) }
     {
-        let moved = |mark| after_delete(mark, offset, count);
-        self.entries = self.entries.map(|entry| entry.map(moved));
+        change_each(&mut self.entries, |mark| after_delete(mark, offset, count));
     }
 }
