@@ -2,27 +2,27 @@
 ghost use Rattle.std.specs.Prelude.{◌≡◌};
 ghost use Rattle.ledger.specs.Denials.{number_of};
 
-#[derive(Clone, Copy)]
+#[derive(Clone, Copy, PartialEq, Eq, Debug)]
 pub enum Denial {
-    CapacityOutOfRange,
-    TooFewRecords,
-    OriginalTooLong,
-    PastTheText,
-    Nothing,
-    AddedFull,
-    PiecesFull,
-    StepsFull,
-    RunsFull,
-    VersionsFull,
-    AtVersionZero,
-    NoChild,
-    NoVersion,
-    NoStep,
-    MarkNotSet,
-    NoMarkName,
-    NoLine,
-    GroupOpen,
-    NoGroup,
+    CapacityOutOfRange = 1,
+    TooFewRecords = 2,
+    OriginalTooLong = 3,
+    PastTheText = 4,
+    Nothing = 5,
+    AddedFull = 6,
+    PiecesFull = 7,
+    StepsFull = 8,
+    RunsFull = 9,
+    VersionsFull = 10,
+    AtVersionZero = 11,
+    NoChild = 12,
+    NoVersion = 13,
+    NoStep = 14,
+    MarkNotSet = 15,
+    NoMarkName = 16,
+    NoLine = 17,
+    GroupOpen = 18,
+    NoGroup = 19,
 }
 
 impl Denial {
@@ -30,26 +30,6 @@ impl Denial {
     pub fn number(self) -> u8
         ensures { result ≡ number_of self }
     {
-        match self {
-            Denial::CapacityOutOfRange => 1,
-            Denial::TooFewRecords => 2,
-            Denial::OriginalTooLong => 3,
-            Denial::PastTheText => 4,
-            Denial::Nothing => 5,
-            Denial::AddedFull => 6,
-            Denial::PiecesFull => 7,
-            Denial::StepsFull => 8,
-            Denial::RunsFull => 9,
-            Denial::VersionsFull => 10,
-            Denial::AtVersionZero => 11,
-            Denial::NoChild => 12,
-            Denial::NoVersion => 13,
-            Denial::NoStep => 14,
-            Denial::MarkNotSet => 15,
-            Denial::NoMarkName => 16,
-            Denial::NoLine => 17,
-            Denial::GroupOpen => 18,
-            Denial::NoGroup => 19,
-        }
+        self as u8
     }
 }

@@ -3,25 +3,25 @@ ghost use Rattle.std.specs.Prelude.{◌≡◌};
 ghost use Rattle.ledger.specs.Names.{is_name};
 
 // How many elements stand before a place in the text.
-#[derive(Clone, Copy)]
+#[derive(Clone, Copy, PartialEq, Eq, PartialOrd, Ord, Debug)]
 pub struct Offset(pub usize);
 
 // The number of a line; the first is 1.
-#[derive(Clone, Copy)]
+#[derive(Clone, Copy, PartialEq, Eq, PartialOrd, Ord, Debug)]
 pub struct LineNumber(pub usize);
 
 // The number of a version; the one that a document begins with is 0.
-#[derive(Clone, Copy)]
+#[derive(Clone, Copy, PartialEq, Eq, PartialOrd, Ord, Debug)]
 pub struct VersionNumber(pub usize);
 
 // Whether a mark stays before or goes behind what is inserted at its offset.
-#[derive(Clone, Copy)]
+#[derive(Clone, Copy, PartialEq, Eq, Debug)]
 pub enum Gravity {
     Left,
     Right,
 }
 
-#[derive(Clone, Copy)]
+#[derive(Clone, Copy, PartialEq, Eq, Debug)]
 pub struct Mark {
     pub offset: Offset,
     pub gravity: Gravity,
@@ -31,7 +31,7 @@ pub struct Mark {
 pub fn is_mark_name(byte: u8) -> bool
     ensures { result ≡ is_name byte }
 {
-    byte >= b'a' && byte <= b'z'
+    byte.is_ascii_lowercase()
 }
 
 // Where elements are kept: in the read-only original, or in the added source, which grows at its end.
@@ -42,14 +42,14 @@ pub enum Source {
 }
 
 // Where one element of the text is kept.
-#[derive(Clone, Copy)]
+#[derive(Clone, Copy, PartialEq, Eq, Debug)]
 pub struct Place {
     pub source: Source,
     pub index: usize,
 }
 
 // A stretch of text with places in one source and indexes rising by one.
-#[derive(Clone, Copy)]
+#[derive(Clone, Copy, PartialEq, Eq, Debug)]
 pub struct Piece {
     pub source: Source,
     pub start: usize,
@@ -57,7 +57,7 @@ pub struct Piece {
 }
 
 // One change of text or marks.
-#[derive(Clone, Copy)]
+#[derive(Clone, Copy, PartialEq, Eq, Debug)]
 pub enum Step {
     // puts `length` elements, kept in the added source from `start` on, behind the first `offset` elements
     Insert {
@@ -81,7 +81,7 @@ pub enum Step {
 }
 
 // How much a document may hold.
-#[derive(Clone, Copy)]
+#[derive(Clone, Copy, PartialEq, Eq, Debug)]
 pub struct Capacities {
     // added elements
     pub added: usize,

@@ -1,10 +1,17 @@
 -- What holds of each mark of a list, and how it goes on. Assumes nothing.
-use Rattle.std.proofs.Common.{◌≡◌, ℕ, zero, suc, ◌+◌, ◌-◌, ◌^◌, ◌<◌, ◌≤◌, Bool, true, false, cond, ◌&&◌, ◌||◌, eqb, ltb, leb, List, [], ◌∷◌, map, length, get_or, set, replicate, Some, None, Option, arith}
+use Rattle.std.proofs.Common.{◌≡◌, ℕ, ◌+◌, ◌-◌, ◌^◌, ◌<◌, ◌≤◌, Bool, true, false, cond, ◌&&◌, ◌||◌, eqb, ltb, leb, List, map, set, replicate, Some, None, Option, arith}
 use Rattle.std.proofs.lemmas.Bool.{cond_both, leb-true}
+use Rattle.std.proofs.lemmas.List.Elements.{All-from_recursion, recursion_from_All, All-map, All-replicate, All-set, All-weaker}
+use Rattle.std.proofs.lemmas.Option.{IfSome_then}
 use Rattle.std.specs.Option.{option_map}
 use Rattle.ledger.specs.Steps.{is_right, shifted, pulled}
 use Rattle.ledger.specs.declared.words.Mark.{Mark}
 use Rattle.marks.specs.Bounds.{Where, Each, AllWithin, AllShiftable}
+
+-- a property of each mark gives a weaker one
+pub each_kept : (Before After : Mark → Type 0) → ((m : Mark) → Before m → After m) → (ms : List (Option Mark)) → Each Before ms → Each After ms
+each_kept Before After step ms h =
+    recursion_from_All (Where After) ms (All-weaker (Where Before) (Where After) (λ entry w. IfSome_then entry w step) ms (All-from_recursion (Where Before) ms h))
 
 module _ (Before After : Mark → Type 0) (f : Mark → Mark) (step : (m : Mark) → Before m → After (f m)) where
   -- what holds of a mark goes on to it moved, where it is there
@@ -14,37 +21,19 @@ module _ (Before After : Mark → Type 0) (f : Mark → Mark) (step : (m : Mark)
 
   -- a property of each mark goes on to each mark moved
   pub each_mapped : (ms : List (Option Mark)) → Each Before ms → Each After (map (option_map f) ms)
-  each_mapped [] h = tt
-  each_mapped (entry ∷ more) h = (where_mapped entry h.0, each_mapped more h.1)
-
-module _ (Before After : Mark → Type 0) (step : (m : Mark) → Before m → After m) where
-  -- what holds of a mark gives what is weaker, where it is there
-  where_kept : (entry : Option Mark) → Where Before entry → Where After entry
-  where_kept None h = tt
-  where_kept (Some m) h = step m h
-
-  -- a property of each mark gives a weaker one
-  pub each_kept : (ms : List (Option Mark)) → Each Before ms → Each After ms
-  each_kept [] h = tt
-  each_kept (entry ∷ more) h = (where_kept entry h.0, each_kept more h.1)
+  each_mapped ms h =
+      let moved = option_map f in
+      recursion_from_All (Where After) (map moved ms)
+      (All-map (Where After) moved ms (All-weaker (Where Before) (λ entry. Where After (moved entry)) where_mapped ms (All-from_recursion (Where Before) ms h)))
 
 module _ (Holds : Mark → Type 0) where
-  -- a property of each mark holds of the entry at an index
-  pub each_at : (ms : List (Option Mark)) (i : ℕ) (default : Option Mark) → i < length ms → Each Holds ms → Where Holds (get_or ms i default)
-  each_at [] i default lt h = absurd (omega arith)
-  each_at (entry ∷ more) zero default lt h = h.0
-  each_at (entry ∷ more) (suc i) default lt h = each_at more i default (omega arith) h.1
-
-  -- it still holds of each where it holds of an entry that is put in
+  -- a property of each mark still holds of each where it holds of an entry that is put in
   pub each_set : (ms : List (Option Mark)) (i : ℕ) (entry : Option Mark) → Where Holds entry → Each Holds ms → Each Holds (set ms i entry)
-  each_set [] i entry w h = tt
-  each_set (old ∷ more) zero entry w h = (w, h.1)
-  each_set (old ∷ more) (suc i) entry w h = (h.0, each_set more i entry w h.1)
+  each_set ms i entry w h = recursion_from_All (Where Holds) (set ms i entry) (All-set (Where Holds) ms i entry w (All-from_recursion (Where Holds) ms h))
 
   -- it holds where no mark is there
   pub each_none : (n : ℕ) → Each Holds (replicate n None)
-  each_none zero = tt
-  each_none (suc n) = (tt, each_none n)
+  each_none n = recursion_from_All (Where Holds) (replicate n None) (All-replicate (Where Holds) n None tt)
 
 -- marks within a bound are within a larger one
 pub within_more : (a b : ℕ) (ms : List (Option Mark)) → a ≤ b → AllWithin a ms → AllWithin b ms

@@ -1,4 +1,5 @@
 // How one mark moves where text is inserted and deleted.
+// An offset and a count stay two numbers, as a step has them: a struct of both would be made for each call and taken apart in it.
 ghost use Rattle.std.specs.Prelude.{◌≡◌, ◌+◌, ◌^◌, ◌<◌, ◌&&◌, ◌||◌, ◌==◌, nat_lt};
 ghost use Rattle.ledger.specs.Steps.{is_right, shifted, pulled};
 
@@ -22,7 +23,7 @@ pub fn after_insert(mark: Mark, offset: usize, count: usize) -> Mark
     if is_pushed(mark, offset) {
         Mark {
             offset: Offset(mark.offset.0 + count),
-            gravity: mark.gravity,
+            ..mark
         }
     } else {
         mark
@@ -34,16 +35,15 @@ pub fn after_delete(mark: Mark, offset: usize, count: usize) -> Mark
     requires { offset + count < 2 ^ 64 }
     ensures { result ≡ pulled offset count mark }
 {
-    if mark.offset.0 <= offset {
-        return mark;
-    }
-    let place = if mark.offset.0 < offset + count {
+    let place = if mark.offset.0 <= offset {
+        mark.offset.0
+    } else if mark.offset.0 < offset + count {
         offset
     } else {
         mark.offset.0 - count
     };
     Mark {
         offset: Offset(place),
-        gravity: mark.gravity,
+        ..mark
     }
 }

@@ -3,66 +3,29 @@ ghost use Rattle.std.specs.Prelude.{◌≡◌, ◌+◌, ◌-◌, ◌^◌, ◌<�
 ghost use Rattle.std.specs.Option.{option_map};
 ghost use Rattle.ledger.specs.Names.{is_name};
 ghost use Rattle.ledger.specs.Steps.{mark_of, shifted, pulled};
-ghost use Rattle.marks.specs.Bounds.{Shiftable, AllShiftable};
-ghost use Rattle.marks.specs.Tables.{marks_of};
+ghost use Rattle.ledger.specs.declared.words.Mark.{Mark};
+ghost use Rattle.marks.specs.Bounds.{Each, AllShiftable};
+ghost use Rattle.marks.specs.Tables.{marks_of, Computes};
 
 use crate::moving::{after_delete, after_insert};
 use ledger::words::Mark;
 
 // The marks of a text, from a to z.
-#[derive(Clone, Copy)]
+// A name stays a byte, as a step has it: a type of names would ask a conversion of each caller and save two clauses.
+#[derive(Clone, Copy, PartialEq, Eq, Debug)]
 pub struct Marks {
     entries: [Option<Mark>; 26],
 }
 
-// Where a name stands in the table.
-fn index_of(name: u8) -> usize
-    requires { is_name name ≡ true }
-    ensures counted { result ≡ name - 97 }
-    ensures within { result < 26 }
+// Changes each mark that is there, in place: the library's `map` of an array makes a new one and takes several times as long.
+fn change_each<F: Fn(Mark) -> Mark>(entries: &mut [Option<Mark>], change: F)
+    requires { Each (F.pre change) entries.old }
+    ensures { (f : Mark → Mark) → Computes (F.post change) f → entries.new ≡ map (option_map f) entries.old }
 {
-    (name - b'a') as usize
-}
-
-// The mark, where there is one, after an insert.
-fn pushed(mark: Option<Mark>, offset: usize, count: usize) -> Option<Mark>
-    requires { Shiftable count mark }
-    ensures { result ≡ option_map (shifted offset count) mark }
-{
-    match mark {
-        Some(there) => Some(after_insert(there, offset, count)),
-        None => None,
-    }
-}
-
-// The mark, where there is one, after a delete.
-fn drawn(mark: Option<Mark>, offset: usize, count: usize) -> Option<Mark>
-    requires { offset + count < 2 ^ 64 }
-    ensures { result ≡ option_map (pulled offset count) mark }
-{
-    match mark {
-        Some(there) => Some(after_delete(there, offset, count)),
-        None => None,
-    }
-}
-
-// Moves each mark that is there by an insert.
-fn push_all(entries: &mut [Option<Mark>], offset: usize, count: usize)
-    requires { AllShiftable count entries.old }
-    ensures { entries.new ≡ map (option_map (shifted offset count)) entries.old }
-{
-    for slot in entries.iter_mut() {
-        *slot = pushed(*slot, offset, count);
-    }
-}
-
-// Moves each mark that is there by a delete.
-fn draw_all(entries: &mut [Option<Mark>], offset: usize, count: usize)
-    requires { offset + count < 2 ^ 64 }
-    ensures { entries.new ≡ map (option_map (pulled offset count)) entries.old }
-{
-    for slot in entries.iter_mut() {
-        *slot = drawn(*slot, offset, count);
+    for entry in entries.iter_mut() {
+        if let Some(mark) = entry {
+            *mark = change(*mark);
+        }
     }
 }
 
@@ -81,7 +44,7 @@ impl Marks {
         requires { is_name name ≡ true }
         ensures { result ≡ mark_of name (marks_of self.now) }
     {
-        self.entries[index_of(name)]
+        self.entries[usize::from(name - b'a')]
     }
 
     // Gives a name its mark, or none.
@@ -89,7 +52,7 @@ impl Marks {
         requires { is_name name ≡ true }
         ensures { marks_of self.new ≡ slice_set (marks_of self.old) (name - 97) mark }
     {
-        let place = index_of(name);
+        let place = usize::from(name - b'a');
         self.entries[place] = mark;
     }
 
@@ -98,7 +61,7 @@ impl Marks {
         requires { AllShiftable count (marks_of self.old) }
         ensures { marks_of self.new ≡ map (option_map (shifted offset count)) (marks_of self.old) }
     {
-        push_all(&mut self.entries, offset, count);
+        change_each(&mut self.entries, |mark| after_insert(mark, offset, count));
     }
 
     // Moves the marks by a delete of `count` elements at `offset`.
@@ -106,6 +69,6 @@ impl Marks {
         requires { offset + count < 2 ^ 64 }
         ensures { marks_of self.new ≡ map (option_map (pulled offset count)) (marks_of self.old) }
     {
-        draw_all(&mut self.entries, offset, count);
+        change_each(&mut self.entries, |mark| after_delete(mark, offset, count));
     }
 }

@@ -1,0 +1,7 @@
+-- Each mark is moved.
+use Rattle.std.proofs.Common.{rules}
+use Rattle.ledger.specs.Steps.{shifted}
+use Rattle.marks.proofs.table.Marks.shift.Goals as goal
+
+pub returns : goal.returns
+returns c = c.change_each.ensures (shifted c.args.offset c.args.count) (λ m new k. search rules)
