@@ -6,12 +6,10 @@ ghost use Rattle.script.specs.Paper.{line_size, Splits, is_dot, split_at_dot, Fi
 fn measure_line(bytes: &[u8]) -> usize
     ensures { result ≡ line_size bytes.now }
 {
-    for (place, byte) in bytes.iter().enumerate() {
-        if *byte == b'\n' {
-            return place + 1;
-        }
-    }
-    bytes.len()
+    bytes
+        .iter()
+        .position(|byte| *byte == b'\n')
+        .map_or(bytes.len(), |place| place + 1)
 }
 
 // The first line, with its break where it has one, and what follows it.
@@ -25,13 +23,7 @@ pub fn split_line(bytes: &[u8]) -> (&[u8], &[u8])
 pub fn is_dot_line(line: &[u8]) -> bool
     ensures { result ≡ is_dot line.now }
 {
-    match line {
-        [mark, stop] => match (char::from(*mark), char::from(*stop)) {
-            ('.', '\n') => true,
-            _ => false,
-        },
-        _ => false,
-    }
+    matches!(line, [mark, stop] if char::from(*mark) == '.' && char::from(*stop) == '\n')
 }
 
 // What stands before the first dot line, and what follows it.
@@ -43,8 +35,7 @@ pub fn split_at_dot_line(bytes: &[u8]) -> Option<(&[u8], &[u8])>
     while !rest.is_empty() {
         let (line, after) = split_line(rest);
         if is_dot_line(line) {
-            let (before, _) = bytes.split_at(bytes.len() - rest.len());
-            return Some((before, after));
+            return Some((&bytes[..bytes.len() - rest.len()], after));
         }
         rest = after;
     }
