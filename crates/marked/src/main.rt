@@ -2,16 +2,9 @@
 #![tactic(auto)]
 
 use element::Cell;
-use script::paper::INPUT_LIMIT;
-use std::io::{Read, Write};
+use session::answer_paper;
 
 fn main(rt: HostRuntime) -> anyhow::Result<()> {
-    let mut input = Vec::new(rt.alloc());
-    // One byte above the limit is enough to see that an input is too long.
-    rt.stdin()
-        .take(INPUT_LIMIT as u64 + 1)
-        .read_to_end(&mut input)?;
-    let output = session::run::<Cell>(rt.alloc(), &input)?;
-    rt.stdout().write_all(&output)?;
+    answer_paper::<Cell, _, _>(rt.alloc(), rt.stdin(), &mut rt.stdout())?;
     Ok(())
 }

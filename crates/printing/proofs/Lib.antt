@@ -1,3 +1,1 @@
-pub mod Buffers
-pub mod ReadBack
-pub mod Figures
+pub mod Hexadecimals

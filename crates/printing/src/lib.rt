@@ -1,39 +1,66 @@
-// Numbers and short lines, written as bytes into a buffer of the caller's. Nothing is allocated. A writer takes the place to write at and
-// answers where its bytes end; where they do not fit it writes nothing, and answers `None`.
+// Numbers and short lines as bytes, printed on a page, which is memory of the caller's. Nothing is allocated. What does not fit is
+// denied, and the page stays as it was.
 #![tactic(auto)]
 
-ghost use Rattle.std.specs.Prelude.{◌≡◌, ◌+◌, ◌%◌, ◌≤◌, [], ◌∷◌, ◌++◌, length, decimal, nat_le};
-ghost use Rattle.printing.specs.Numerals.{hex_digit, hex8, hex_value, denial_line, totals_line};
-ghost use Rattle.printing.specs.Output.{Put};
+ghost use Rattle.std.specs.Prelude.{◌≡◌, ◌≤◌, length, decimal};
+ghost use Rattle.printing.specs.Numerals.{hex8, hex_value, denial_line, totals_line};
+ghost use Rattle.printing.specs.Output.{Prints};
 
-// Whether `size` bytes from `at` on stay within a buffer of `len` bytes.
-fn has_room(len: usize, at: usize, size: usize) -> bool
-    ensures { result ≡ nat_le (at + size) len }
-{
-    at <= len && size <= len - at
+use arrayvec::ArrayString;
+use hex::encode_to_slice;
+use itoa::Buffer;
+
+// The longest line: the eight digits of a value, a space, the ten digits of a tally, the end of the line.
+const LONGEST_LINE: usize = 20;
+
+// The text of a line, its end included.
+pub type Line = ArrayString<LONGEST_LINE>;
+
+// A buffer of the caller's, and where the bytes printed in it end.
+#[derive(Debug, Drop)]
+pub struct Page<'a> {
+    pub buffer: &'a mut [u8],
+    pub end: usize,
 }
 
-// Writes `bytes` at `at`.
-pub fn put(out: &mut [u8], at: usize, bytes: &[u8]) -> Option<usize>
-    ensures { Put out.old out.new at bytes.now result }
-{
-    if !has_room(out.len(), at, bytes.len()) {
-        return None;
+// There is no room on the page for what was to be printed.
+#[derive(Clone, Copy, PartialEq, Eq, Debug)]
+pub struct NoRoom;
+
+impl Page<'_> {
+    // Prints `bytes`, all of them or none.
+    pub fn put(&mut self, bytes: &[u8]) -> Result<(), NoRoom>
+        ensures { Prints self.old self.new bytes.now result }
+    {
+        let end = self.end.checked_add(bytes.len()).ok_or(NoRoom)?;
+        if end > self.buffer.len() {
+            return Err(NoRoom);
+        }
+        self.buffer[self.end..end].copy_from_slice(bytes);
+        self.end = end;
+        Ok(())
     }
-    let end = at + bytes.len();
-    out[at..end].copy_from_slice(bytes);
-    Some(end)
-}
 
-// The lower-case digit of the last four bits of `n`.
-fn hex_digit(n: u32) -> u8
-    ensures { result ≡ hex_digit (n % 16) }
-{
-    let digit = (n % 16) as u8;
-    if digit < 10 {
-        b'0' + digit
-    } else {
-        b'a' + (digit - 10)
+    // Prints `n` in decimal.
+    pub fn write_decimal(&mut self, n: u64) -> Result<(), NoRoom>
+        ensures { Prints self.old self.new (decimal n) result }
+    {
+        let mut buffer = Buffer::new();
+        self.put(buffer.format(n).as_bytes())
+    }
+
+    // Prints the line of a denial.
+    pub fn write_denial(&mut self, number: u8) -> Result<(), NoRoom>
+        ensures { Prints self.old self.new (denial_line number) result }
+    {
+        self.put(denial_line(number).as_bytes())
+    }
+
+    // Prints the line of totals.
+    pub fn write_totals(&mut self, value: u32, tally: u32) -> Result<(), NoRoom>
+        ensures { Prints self.old self.new (totals_line value tally) result }
+    {
+        self.put(totals_line(value, tally).as_bytes())
     }
 }
 
@@ -42,16 +69,9 @@ pub fn hexadecimal(n: u32) -> [u8; 8]
     ensures digits { result ≡ hex8 n }
     ensures reads_back { hex_value result ≡ n }
 {
-    [
-        hex_digit(n / 0x1000_0000),
-        hex_digit(n / 0x100_0000),
-        hex_digit(n / 0x10_0000),
-        hex_digit(n / 0x1_0000),
-        hex_digit(n / 0x1000),
-        hex_digit(n / 0x100),
-        hex_digit(n / 0x10),
-        hex_digit(n),
-    ]
+    let mut digits = [0; 8];
+    encode_to_slice(n.to_be_bytes(), &mut digits).unwrap();
+    digits
 }
 
 // How many decimal digits `n` has: at most twenty.
@@ -59,97 +79,50 @@ pub fn decimal_width(n: u64) -> usize
     ensures counts { result ≡ length (decimal n) }
     ensures few { result ≤ 20 }
 {
-    let mut width = 1;
-    let mut rest = n;
-    while rest >= 10 {
-        width += 1;
-        rest /= 10;
-    }
-    width
+    let mut buffer = Buffer::new();
+    buffer.format(n).len()
 }
 
-// The last decimal digit of `n`.
-fn last_digit(n: u64) -> u8
-    ensures { result ≡ 48 + n % 10 }
+// The line of a denial: a question mark, its number in decimal, the end of the line.
+pub fn denial_line(number: u8) -> Line
+    ensures { result.bytes ≡ denial_line number }
 {
-    b'0' + (n % 10) as u8
+    let mut buffer = Buffer::new();
+    let mut line = Line::new();
+    line.push('?');
+    line.push_str(buffer.format(number));
+    line.push('\n');
+    line
 }
 
-// Writes `n` in decimal at `at`, the last digit first.
-pub fn write_decimal(out: &mut [u8], at: usize, n: u64) -> Option<usize>
-    ensures { Put out.old out.new at (decimal n) result }
+// The line of totals: the value in hexadecimal, a space, the tally in decimal, the end of the line.
+pub fn totals_line(value: u32, tally: u32) -> Line
+    ensures { result.bytes ≡ totals_line value tally }
 {
-    let width = decimal_width(n);
-    if !has_room(out.len(), at, width) {
-        return None;
-    }
-    let mut place = at + width;
-    let mut rest = n;
-    while rest >= 10 {
-        place -= 1;
-        out[place] = last_digit(rest);
-        rest /= 10;
-    }
-    out[at] = last_digit(rest);
-    Some(at + width)
-}
-
-// Writes a number in decimal between two texts.
-fn write_between(out: &mut [u8], at: usize, head: &[u8], n: u64, tail: &[u8]) -> Option<usize>
-    ensures { Put out.old out.new at (head.now ++ (decimal n ++ tail.now)) result }
-{
-    if !has_room(out.len(), at, head.len()) {
-        return None;
-    }
-    let width = decimal_width(n);
-    if !has_room(out.len(), at + head.len(), width) {
-        return None;
-    }
-    if !has_room(out.len(), at + head.len() + width, tail.len()) {
-        return None;
-    }
-    let Some(head_end) = put(out, at, head) else {
-        return None;
-    };
-    let Some(number_end) = write_decimal(out, head_end, n) else {
-        return None;
-    };
-    put(out, number_end, tail)
-}
-
-// Writes a denial at `at`: a question mark, its number in decimal, the end of the line.
-pub fn write_denial(out: &mut [u8], at: usize, number: u8) -> Option<usize>
-    ensures { Put out.old out.new at (denial_line number) result }
-{
-    write_between(out, at, b"?", number as u64, b"\n")
-}
-
-// The digits of a value, and a space after them.
-fn spaced(value: u32) -> [u8; 9]
-    ensures { result ≡ hex8 value ++ (32 ∷ []) }
-{
-    let [a, b, c, d, e, f, g, h] = hexadecimal(value);
-    [a, b, c, d, e, f, g, h, b' ']
-}
-
-// Writes totals at `at`: the value in hexadecimal, a space, the tally in decimal, the end of the line.
-pub fn write_totals(out: &mut [u8], at: usize, value: u32, tally: u32) -> Option<usize>
-    ensures { Put out.old out.new at (totals_line value tally) result }
-{
-    write_between(out, at, &spaced(value), tally as u64, b"\n")
+    let digits = hexadecimal(value);
+    let mut buffer = Buffer::new();
+    let mut line = Line::new();
+    line.push_str(str::from_utf8(&digits).unwrap());
+    line.push(' ');
+    line.push_str(buffer.format(tally));
+    line.push('\n');
+    line
 }
 
 #[cfg(test)]
 mod tests {
     use super::*;
 
-    // Whether `digits` are what is written of `n`.
+    // Whether `digits` are what is printed of `n`.
     fn shows(n: u64, digits: &[u8]) -> bool {
         let mut out = [b'.'; 20];
-        match write_decimal(&mut out, 0, n) {
-            Some(len) => len == digits.len() && len <= out.len() && &out[0..len] == digits,
-            None => false,
-        }
+        let mut page = Page {
+            buffer: &mut out,
+            end: 0,
+        };
+        let printed = page.write_decimal(n);
+        let len = page.end;
+        printed.is_ok() && len == digits.len() && len <= out.len() && &out[0..len] == digits
     }
 
     #[test]
@@ -169,18 +142,35 @@ mod tests {
     #[test]
     fn a_buffer_just_full(rt: HostRuntime) {
         let mut out = [b'.'; 15];
-        assert_eq!(rt; write_totals(&mut out, 1, 97258, 4021), Some(15));
+        let mut page = Page {
+            buffer: &mut out,
+            end: 1,
+        };
+        assert_eq!(rt; page.write_totals(97258, 4021), Ok(()));
+        assert_eq!(rt; page.end, 15);
         assert_eq!(rt; out, *b".00017bea 4021\n");
-        assert_eq!(rt; write_denial(&mut out, 10, 255), Some(15));
+        let mut page = Page {
+            buffer: &mut out,
+            end: 10,
+        };
+        assert_eq!(rt; page.write_denial(255), Ok(()));
+        assert_eq!(rt; page.end, 15);
         assert_eq!(rt; out, *b".00017bea ?255\n");
     }
 
     #[test]
     fn a_buffer_too_short(rt: HostRuntime) {
         let mut out = [b'.'; 14];
-        assert_eq!(rt; write_totals(&mut out, 1, 97258, 4021), None);
-        assert_eq!(rt; write_denial(&mut out, 10, 255), None);
-        assert_eq!(rt; write_decimal(&mut out, 15, 0), None);
+        let mut page = Page {
+            buffer: &mut out,
+            end: 1,
+        };
+        assert_eq!(rt; page.write_totals(97258, 4021), Err(NoRoom));
+        page.end = 10;
+        assert_eq!(rt; page.write_denial(255), Err(NoRoom));
+        page.end = 15;
+        assert_eq!(rt; page.write_decimal(0), Err(NoRoom));
+        assert_eq!(rt; page.end, 15);
         assert_eq!(rt; out, [b'.'; 14]);
     }
 }

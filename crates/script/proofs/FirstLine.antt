@@ -1,7 +1,6 @@
 -- The first line of some bytes. Assumes nothing.
-use Rattle.std.proofs.Common.{◌≡◌, ℕ, suc, ◌+◌, ◌<◌, ◌≤◌, true, false, cond, eqb, List, [], ◌∷◌, ◌++◌, length, get_or, take, drop, sym, refl, ap, ◌∙◌, arith, length-drop, take-append-drop}
-use Rattle.std.proofs.lemmas.List.{at_drop_more, at_drop_all}
-use Rattle.std.proofs.lemmas.Bool.{eq-eqb, ne_eqb, cond-true, cond-false}
+use Rattle.std.proofs.Common.{◌≡◌, ℕ, suc, ◌+◌, ◌<◌, ◌≤◌, min, not, true, false, cond, eqb, List, [], ◌∷◌, ◌++◌, length, take, drop, Some, None, Option, MatchOption, sym, refl, ap, ◌∙◌, arith, length-drop, take-append-drop}
+use Rattle.std.specs.List.{position, position_or_len}
 use Rattle.element.specs.Lines.{onto}
 use Rattle.script.specs.Paper.{byte_lines, line_size, Splits}
 
@@ -38,26 +37,16 @@ splits bs first after p q =
       shorter = λ some. omega (arith, size_some bs some, ap length q, length-drop (line_size bs) bs, size_within bs);
     }
 
--- The search for the first break has come to place i: what is left has the rest of the first line.
-abbrev pub AtPlace : List ℕ → ℕ → Type 0
-AtPlace bs i = i + line_size (drop i bs) ≡ line_size bs
+-- it ends behind its break, or with the bytes
+pub size_by_place : (bs : List ℕ) → line_size bs ≡ min (position_or_len (λ b. eqb b 10) bs + 1) (length bs)
+size_by_place [] = omega arith
+size_by_place (b ∷ bs) =
+    let more = size_by_place bs in
+    elim (eqb b 10) as (λ t. cond t 1 (suc (line_size bs)) ≡ min (cond (not t) (1 + position_or_len (λ b. eqb b 10) bs) 0 + 1) (suc (length bs)))
+    [ true ↦ omega arith | false ↦ omega arith ]
 
--- the break stands at i
-pub at_break : (bs : List ℕ) (i : ℕ) → i < length bs → get_or bs i 0 ≡ 10 → AtPlace bs i → i + 1 ≡ line_size bs
-at_break bs i inside is reached =
-    let more = at_drop_more line_size bs i 0 inside in
-    let one = cond-true (eqb (get_or bs i 0) 10) 1 (suc (line_size (drop (i + 1) bs))) (eq-eqb _ 10 is) in
-    omega arith
-
--- no break stands at i
-pub past_place : (bs : List ℕ) (i : ℕ) → i < length bs → (get_or bs i 0 ≡ 10 → ⊥) → AtPlace bs i → AtPlace bs (i + 1)
-past_place bs i inside other reached =
-    let more = at_drop_more line_size bs i 0 inside in
-    let on = cond-false (eqb (get_or bs i 0) 10) 1 (suc (line_size (drop (i + 1) bs))) (ne_eqb _ 10 other) in
-    omega arith
-
--- there is no break
-pub at_end : (bs : List ℕ) (i : ℕ) → i ≡ length bs → AtPlace bs i → length bs ≡ line_size bs
-at_end bs i is reached =
-    let none = at_drop_all line_size bs i (omega arith) in
-    omega arith
+-- the same by the place of the first break
+pub size_from_place : (bs : List ℕ) (place : Option ℕ) (size : ℕ) → place ≡ position (λ b. eqb b 10) bs
+    → MatchOption place (size ≡ length bs) (λ at. size ≡ at + 1) → size ≡ line_size bs
+size_from_place bs None size e h = let more = size_by_place bs in grind arith
+size_from_place bs (Some at) size e h = let more = size_by_place bs in grind arith

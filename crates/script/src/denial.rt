@@ -5,21 +5,17 @@ ghost use Rattle.script.specs.Denials.{number_of};
 #[derive(Clone, Copy, PartialEq, Eq, Debug)]
 pub enum SessionDenial {
     // the input has more bytes than are read
-    InputTooLong,
+    InputTooLong = 20,
     // the input is empty, or its last byte is no line break
-    NoFinalBreak,
+    NoFinalBreak = 21,
     // no line of the input is a single dot
-    NoDotLine,
+    NoDotLine = 22,
 }
 
 impl SessionDenial {
     pub fn number(self) -> u8
         ensures { result ≡ number_of self }
     {
-        match self {
-            SessionDenial::InputTooLong => 20,
-            SessionDenial::NoFinalBreak => 21,
-            SessionDenial::NoDotLine => 22,
-        }
+        self as u8
     }
 }

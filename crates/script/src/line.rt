@@ -6,15 +6,14 @@ ghost use Rattle.script.specs.Paper.{line_size, Splits, is_dot, split_at_dot, Fi
 fn measure_line(bytes: &[u8]) -> usize
     ensures { result ≡ line_size bytes.now }
 {
-    for (place, byte) in bytes.iter().enumerate() {
-        if *byte == b'\n' {
-            return place + 1;
-        }
-    }
-    bytes.len()
+    bytes
+        .iter()
+        .position(|byte| *byte == b'\n')
+        .map_or(bytes.len(), |place| place + 1)
 }
 
 // The first line, with its break where it has one, and what follows it.
+#[tactic(auto, using(crate::proofs::FirstLine::size_within, crate::proofs::FirstLine::splits))]
 pub fn split_line(bytes: &[u8]) -> (&[u8], &[u8])
     ensures { Splits bytes.now result.0.now result.1.now }
 {
@@ -25,16 +24,12 @@ pub fn split_line(bytes: &[u8]) -> (&[u8], &[u8])
 pub fn is_dot_line(line: &[u8]) -> bool
     ensures { result ≡ is_dot line.now }
 {
-    match line {
-        [mark, stop] => match (char::from(*mark), char::from(*stop)) {
-            ('.', '\n') => true,
-            _ => false,
-        },
-        _ => false,
-    }
+    matches!(line, [mark, stop] if char::from(*mark) == '.' && char::from(*stop) == '\n')
 }
 
-// What stands before the first dot line, and what follows it.
+// What stands before the first dot line, and what follows it. Lines are taken off the front by hand: no iterator of lines answers
+// what follows one.
+#[tactic(auto, using(crate::proofs::Dots::go_on))]
 pub fn split_at_dot_line(bytes: &[u8]) -> Option<(&[u8], &[u8])>
     ensures exact { MatchOption result (split_at_dot bytes.now ≡ None) (λ p. split_at_dot bytes.now ≡ Some (p.0.now, p.1.now)) }
     ensures first { MatchOption result (NoDot bytes.now) (λ p. FirstDot bytes.now p.0.now p.1.now) }
@@ -43,8 +38,7 @@ pub fn split_at_dot_line(bytes: &[u8]) -> Option<(&[u8], &[u8])>
     while !rest.is_empty() {
         let (line, after) = split_line(rest);
         if is_dot_line(line) {
-            let (before, _) = bytes.split_at(bytes.len() - rest.len());
-            return Some((before, after));
+            return Some((&bytes[..bytes.len() - rest.len()], after));
         }
         rest = after;
     }

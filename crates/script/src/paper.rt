@@ -18,10 +18,7 @@ pub struct Paper<'a> {
 fn ends_line(bytes: &[u8]) -> bool
     ensures { result ≡ ends_with_break bytes.now }
 {
-    match bytes {
-        [] => false,
-        [.., last] => *last == b'\n',
-    }
+    matches!(bytes, [.., b'\n'])
 }
 
 pub fn read_paper(input: &[u8]) -> Result<Paper<'_>, SessionDenial>
@@ -34,8 +31,6 @@ pub fn read_paper(input: &[u8]) -> Result<Paper<'_>, SessionDenial>
     if !ends_line(input) {
         return Err(SessionDenial::NoFinalBreak);
     }
-    match split_at_dot_line(input) {
-        Some((set_text, script)) => Ok(Paper { set_text, script }),
-        None => Err(SessionDenial::NoDotLine),
-    }
+    let (set_text, script) = split_at_dot_line(input).ok_or(SessionDenial::NoDotLine)?;
+    Ok(Paper { set_text, script })
 }

@@ -1,18 +1,17 @@
 // A session: it reads a paper, that is a set text and a script, and gives what is printed for it.
 #![tactic(auto)]
 
-ghost use Rattle.std.specs.Prelude.{◌≡◌, map, take, IfOk};
-ghost use Rattle.std.specs.Option.{unwrap_or};
-ghost use Rattle.printing.specs.Numerals.{denial_line, totals_line};
-ghost use Rattle.script.specs.Denials.{number_of};
+ghost use Rattle.std.specs.Prelude.{◌≡◌, map, IfOk, IfSome, OnOk};
+ghost use Rattle.std.specs.Io.KnownBytes.{Appends};
 ghost use Rattle.session.specs.Report.{report, totals_of};
 
 use element::Element;
 use measure::{Fingerprint, Pair, Tally, fold};
-use printing::{write_denial, write_totals};
-use script::denial::SessionDenial;
-use script::paper::read_paper;
+use printing::{Line, denial_line, totals_line};
+use script::paper::{INPUT_LIMIT, read_paper};
 use std::alloc::{AllocError, Global};
+use std::io;
+use std::io::{Read, Write};
 
 // The hand that a set text is typed by.
 const SET_HAND: u8 = 0;
@@ -20,64 +19,46 @@ const SET_HAND: u8 = 0;
 // The totals that a session keeps of every part of its text.
 pub type Totals = Pair<Fingerprint, Tally>;
 
+// Fronts a paper, and writes what is printed for it.
+pub fn answer_paper<E: Element, R: Read + Drop, W: Write>(
+    alloc: Global,
+    input: R,
+    output: &mut W,
+) -> io::Result<()>
+    ensures { OnOk result (IfSome (R.remaining input) (λ paper. Appends (W.contents output.old) (W.contents output.new) (report E.made E.shown E.typist paper))) }
+{
+    let mut paper = Vec::new(alloc);
+    // One byte above the limit is enough to see that an input is too long.
+    input.take(INPUT_LIMIT as u64 + 1).read_to_end(&mut paper)?;
+    let printed = run::<E>(alloc, &paper)?;
+    output.write_all(&printed)
+}
+
 // What is printed for an input: a denial of it, or the totals of its set text.
-pub fn run<E: Element>(heap: Global, input: &[u8]) -> Result<Vec<u8>, AllocError>
+pub fn run<E: Element>(alloc: Global, input: &[u8]) -> Result<Vec<u8>, AllocError>
     ensures { IfOk result (λ v. v.items ≡ report E.made E.shown E.typist input.now) }
 {
-    match read_paper(input) {
-        Ok(paper) => print_text::<E>(heap, paper.set_text),
-        Err(denial) => print_denial(heap, denial),
-    }
+    let line = match read_paper(input) {
+        Ok(paper) => print_text::<E>(alloc, paper.set_text)?,
+        Err(denial) => denial_line(denial.number()),
+    };
+    Vec::from_slice(alloc, line.as_bytes())
 }
 
 // The line of totals of a set text.
-fn print_text<E: Element>(heap: Global, text: &[u8]) -> Result<Vec<u8>, AllocError>
-    ensures { IfOk result (λ v. v.items ≡ totals_of E.shown E.typist (map (λ b. E.made b 0) text.now)) }
+fn print_text<E: Element>(alloc: Global, text: &[u8]) -> Result<Line, AllocError>
+    ensures { IfOk result (λ line. line.bytes ≡ totals_of E.shown E.typist (map (λ b. E.made b 0) text.now)) }
 {
-    let elements: Vec<E> = set_elements(heap, text)?;
-    print_totals(heap, fold(&elements))
+    let elements: Vec<E> = set_elements(alloc, text)?;
+    let totals: Totals = fold(&elements);
+    Ok(totals_line(totals.first.value, totals.second.count))
 }
 
 // The elements of a set text.
-fn set_elements<E: Element>(heap: Global, text: &[u8]) -> Result<Vec<E>, AllocError>
+fn set_elements<E: Element>(alloc: Global, text: &[u8]) -> Result<Vec<E>, AllocError>
     ensures { IfOk result (λ v. v.items ≡ map (λ b. E.made b 0) text.now) }
 {
-    let mut elements = Vec::new(heap);
-    for byte in text {
-        elements.push(set_element(*byte))?;
-    }
-    Ok(elements)
-}
-
-// The element of a set text that shows a byte.
-fn set_element<E: Element>(byte: u8) -> E
-    ensures { result ≡ E.made byte 0 }
-{
-    E::make(byte, SET_HAND)
-}
-
-// The line of some totals.
-fn print_totals(heap: Global, totals: Totals) -> Result<Vec<u8>, AllocError>
-    ensures { IfOk result (λ v. v.items ≡ totals_line totals.first.value totals.second.count) }
-{
-    let mut line = [0; 64];
-    let end = write_totals(&mut line, 0, totals.first.value, totals.second.count);
-    copy_front(heap, &line, end)
-}
-
-// The line of a denial.
-fn print_denial(heap: Global, denial: SessionDenial) -> Result<Vec<u8>, AllocError>
-    ensures { IfOk result (λ v. v.items ≡ denial_line (number_of denial)) }
-{
-    let mut line = [0; 64];
-    let end = write_denial(&mut line, 0, denial.number());
-    copy_front(heap, &line, end)
-}
-
-// The bytes of a buffer up to where a writer ended.
-fn copy_front(heap: Global, buffer: &[u8], end: Option<usize>) -> Result<Vec<u8>, AllocError>
-    ensures { IfOk result (λ v. v.items ≡ take (unwrap_or end 0) buffer.now) }
-{
-    let stop = end.unwrap_or(0).min(buffer.len());
-    Vec::from_slice(heap, &buffer[0..stop])
+    text.iter()
+        .map(|byte| E::make(*byte, SET_HAND))
+        .collect(alloc)
 }

@@ -1,5 +1,4 @@
 use Rattle.std.proofs.Common.{◌≡◌, ℕ, List, map, ap, ◌∙◌}
-use Rattle.std.proofs.lemmas.Result.{IfOk-weaker}
 use Rattle.measure.specs.Fingerprints.{no_bytes, one_byte, bytes_joined}
 use Rattle.measure.specs.Tallies.{none_typed, one_typed, typed_joined}
 use Rattle.measure.specs.declared.fingerprint.Fingerprint.{Fingerprint}
@@ -16,8 +15,6 @@ returns g c =
     let shown : g.row.E.Denot → ℕ = e.shown in
     let typist : g.row.E.Denot → ℕ = e.typist in
     let elements : c.deref.result.now ≡ map (λ b. e.made b 0) c.args.text.now = c.deref.ensures.value ∙ c.in_ok-elements.ensures in
-    let split = c.fold.ensures.whole ∙ total_pair no_bytes none_typed (λ x. one_byte (shown x)) (λ x. one_typed (typist x)) bytes_joined typed_joined c.deref.result.now in
+    let split = c.fold-totals.ensures.whole ∙ total_pair no_bytes none_typed (λ x. one_byte (shown x)) (λ x. one_typed (typist x)) bytes_joined typed_joined c.deref.result.now in
     let line : Pair Fingerprint Tally → List ℕ = λ t. totals_line t.first.value t.second.count in
-    IfOk-weaker c.print_totals.result _ _
-    (λ v printed. printed ∙ ap line split ∙ ap (totals_of shown typist) elements)
-    c.print_totals.ensures
+    c.totals_line.ensures ∙ ap line split ∙ ap (totals_of shown typist) elements

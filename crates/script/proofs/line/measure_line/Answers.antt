@@ -1,13 +1,12 @@
-use Rattle.std.proofs.Common.{arith}
-use Rattle.script.proofs.FirstLine.{at_break, past_place, at_end}
+use Rattle.std.proofs.Common.{◌≡◌, eqb, rules, tests}
+use Rattle.std.proofs.lemmas.Iterator.{YieldsList-from_slice}
+use Rattle.std.proofs.lemmas.Iterator.Search.{position_from_yields_List}
+use Rattle.std.specs.List.{position}
+use Rattle.script.proofs.FirstLine.{size_from_place}
 use Rattle.script.proofs.line.measure_line.Goals as goal
 
-pub returns-then-byte-eq10 : goal.returns-then-byte-eq10
-returns-then-byte-eq10 c =
-    omega (arith, at_break c.args.bytes.now c.loop-place.place (omega arith) c.if-byte-eq10.true c.loop-place.invariant)
-
-pub loop-place-preserved : goal.loop-place-preserved
-loop-place-preserved c = past_place c.args.bytes.now c.loop-place.place (omega arith) c.if-byte-eq10.false c.loop-place.invariant
-
 pub returns : goal.returns
-returns c = at_end c.args.bytes.now c.loop-place.place (omega arith) c.loop-place.invariant
+returns c =
+    let place : c.position.result ≡ position (λ b. eqb b 10) c.args.bytes.now =
+    position_from_yields_List (λ b. eqb b 10) _ _ _ c.position.ensures.ran (YieldsList-from_slice c.args.bytes.now cc) (λ x b q k. search (rules, tests)) in
+    size_from_place c.args.bytes.now c.position.result c.map_or.result place (search rules)
