@@ -1,9 +1,9 @@
 -- What the two sides of a place have in common: the outer side is the one that is named, the inner side is the other one.
 -- Assumes nothing.
-use Rattle.std.specs.Prelude.{Bool, List, ◌∷◌, ◌++◌}
+use Rattle.std.specs.Prelude.{◌+◌, ◌^◌, ◌<◌, Bool, List, ◌∷◌, ◌++◌}
 use Rattle.nodes.specs.declared.types.Node.{Node}
 use Rattle.nodes.specs.declared.types.Tree.{Tree}
-use Rattle.nodes.specs.Trees.{reds_left, reds_right, LeansLeft, LeansRight}
+use Rattle.nodes.specs.Trees.{long, reds_left, reds_right, Bare, Fair, LeansLeft, LeansRight, Weighed}
 use Rattle.balance.specs.declared.side.Side.{Side}
 use Rattle.balance.specs.declared.side.Side.TheVariants.{Left, Right}
 
@@ -30,3 +30,12 @@ Leans Right tree = LeansRight tree
 abbrev pub reds_on : {P T : Type 0} → Side → Tree P T → Bool
 reds_on Left tree = reds_left tree
 reds_on Right tree = reds_right tree
+
+-- a place in no tree, and two trees that may stand on its sides: the item is fair, the trees carry their sums, and the
+-- length of all fits
+pub record Linkable {P T : Type 0} (node : Node P T) (inner outer : Tree P T) : Type 0 where
+  pub bare : Bare node
+  pub fair : Fair node.item
+  pub inner_weighed : Weighed inner
+  pub outer_weighed : Weighed outer
+  pub fits : long inner + node.item.length + long outer < 2 ^ 64

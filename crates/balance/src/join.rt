@@ -1,7 +1,8 @@
 // Joining: two trees and a place between them become one tree, by black heights.
+// A place and its two sides are parameters, not a struct: each step takes them apart and makes the next call of other parts.
 ghost use Rattle.std.specs.Prelude.{◌≡◌, ℕ, ◌+◌, ◌^◌, ◌<◌, ◌≤◌, true, false, List, ◌∷◌, ◌++◌};
 ghost use Rattle.nodes.specs.Trees.{items, long, red, blacks, Bare, Fair, Legal, LeansLeft, LeansRight, Summed, Weighed};
-ghost use Rattle.balance.specs.Sides.{between, reds_on, Leans};
+ghost use Rattle.balance.specs.Sides.{between, reds_on, Leans, Linkable};
 
 use crate::side::{Side, both_red, link_on, unlink_on};
 use measure::Total;
@@ -14,11 +15,7 @@ fn rotate<P: Copy, T: Total>(
     inner: Tree<P, T>,
     outer: Tree<P, T>,
 ) -> Tree<P, T>
-    requires bare { Bare place.value }
-    requires fair { Fair place.value.item }
-    requires inner_weighed { Weighed inner }
-    requires outer_weighed { Weighed outer }
-    requires fits { long inner + place.value.item.length + long outer < 2 ^ 64 }
+    requires linkable { Linkable place.value inner outer }
     requires inner_legal { Legal inner }
     requires outer_leans { Leans side outer }
     requires level { blacks inner ≡ blacks outer }
@@ -47,11 +44,7 @@ fn balance<P: Copy, T: Total>(
     inner: Tree<P, T>,
     outer: Tree<P, T>,
 ) -> Tree<P, T>
-    requires bare { Bare place.value }
-    requires fair { Fair place.value.item }
-    requires inner_weighed { Weighed inner }
-    requires outer_weighed { Weighed outer }
-    requires fits { long inner + place.value.item.length + long outer < 2 ^ 64 }
+    requires linkable { Linkable place.value inner outer }
     requires inner_legal { Legal inner }
     requires outer_leans { Leans side outer }
     requires level { blacks inner ≡ blacks outer }
@@ -79,11 +72,7 @@ fn join_on<P: Copy, T: Total>(
     outer: Tree<P, T>,
     low: usize,
 ) -> Tree<P, T>
-    requires bare { Bare place.value }
-    requires fair { Fair place.value.item }
-    requires inner_weighed { Weighed inner }
-    requires outer_weighed { Weighed outer }
-    requires fits { long inner + place.value.item.length + long outer < 2 ^ 64 }
+    requires linkable { Linkable place.value inner outer }
     requires inner_legal { Legal inner }
     requires outer_legal { Legal outer }
     requires outer_black { red outer ≡ false }

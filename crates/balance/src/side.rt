@@ -1,7 +1,7 @@
 // The two sides of a place, for code that is the same on both but for the order.
 ghost use Rattle.std.specs.Prelude.{◌≡◌, ℕ, ◌+◌, ◌^◌, ◌<◌, ◌≤◌, true, false, List, ◌∷◌, ◌++◌};
 ghost use Rattle.nodes.specs.Trees.{items, long, red, ruddy, weight, blacks, Bare, Calm, Fair, Legal, Summed, Weighed};
-ghost use Rattle.balance.specs.Sides.{between, inner_side, outer_side, reds_on, Leans};
+ghost use Rattle.balance.specs.Sides.{between, inner_side, outer_side, reds_on, Leans, Linkable};
 
 use measure::Total;
 use nodes::{Colour, Node, Tree, is_red, link, unlink};
@@ -21,11 +21,7 @@ pub(crate) fn link_on<P: Copy, T: Total>(
     inner: Tree<P, T>,
     outer: Tree<P, T>,
 ) -> Tree<P, T>
-    requires bare { Bare place.value }
-    requires fair { Fair place.value.item }
-    requires inner_weighed { Weighed inner }
-    requires outer_weighed { Weighed outer }
-    requires fits { long inner + place.value.item.length + long outer < 2 ^ 64 }
+    requires linkable { Linkable place.value inner outer }
     ensures items { items result ≡ between side (items inner) place.value.item (items outer) }
     ensures long { long result ≡ long inner + place.value.item.length + long outer }
     ensures weighed { Weighed result }
