@@ -1,6 +1,6 @@
 // Joining: two trees and a place between them become one tree, by black heights.
 // A place and its two sides are parameters, not a struct: each step takes them apart and makes the next call of other parts.
-ghost use Rattle.std.specs.Prelude.{◌≡◌, ℕ, ◌+◌, ◌^◌, ◌<◌, ◌≤◌, true, false, List, ◌∷◌, ◌++◌};
+ghost use Rattle.std.specs.Prelude.{◌≡◌, ◌+◌, ◌^◌, ◌<◌, ◌≤◌, true, false, ◌∷◌, ◌++◌};
 ghost use Rattle.nodes.specs.Trees.{items, long, red, blacks, Bare, Fair, Legal, LeansLeft, LeansRight, Summed, Weighed};
 ghost use Rattle.balance.specs.Sides.{between, reds_on, Leans, Linkable};
 

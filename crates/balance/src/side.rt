@@ -1,12 +1,12 @@
-// The two sides of a place, for code that is the same on both but for the order.
-ghost use Rattle.std.specs.Prelude.{◌≡◌, ℕ, ◌+◌, ◌^◌, ◌<◌, ◌≤◌, true, false, List, ◌∷◌, ◌++◌};
-ghost use Rattle.nodes.specs.Trees.{items, long, red, ruddy, weight, blacks, Bare, Calm, Fair, Legal, Summed, Weighed};
+// The two sides of a place, for code that is the same on both but for the order of the text.
+ghost use Rattle.std.specs.Prelude.{◌≡◌, ◌+◌};
+ghost use Rattle.nodes.specs.Trees.{items, long, red, ruddy, weight, blacks, Bare, Calm, Legal, Summed, Weighed};
 ghost use Rattle.balance.specs.Sides.{between, inner_side, outer_side, reds_on, Leans, Linkable};
 
 use measure::Total;
 use nodes::{Colour, Node, Tree, is_red, link, unlink};
 
-// A side of a place: the outer one where code speaks of a side, and the other one is the inner one.
+// The side of a place that a tree is joined down: the outer one. The other one is the inner one.
 #[derive(Clone, Copy, PartialEq, Eq, Debug)]
 pub(crate) enum Side {
     Left,
