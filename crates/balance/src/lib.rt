@@ -2,5 +2,6 @@
 #![tactic(auto)]
 
 mod join;
+mod side;
 
 pub use join::{join_left, join_right};

@@ -1,6 +1,6 @@
 // What a piece tree is made of: places in boxes, each with an item and the sums of what hangs below it.
 
-#[derive(Clone, Copy)]
+#[derive(Clone, Copy, PartialEq, Eq, Debug)]
 pub enum Colour {
     Red,
     Black,
