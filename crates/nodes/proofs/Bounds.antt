@@ -1,5 +1,5 @@
 -- Bounds on what a tree carries. Assumes nothing.
-use Rattle.std.proofs.Common.{◌≡◌, ℕ, ◌+◌, ◌<◌, ◌≤◌, Bool, true, false, cond, Box, ap, subst, arith}
+use Rattle.std.proofs.Common.{◌≡◌, ◌+◌, ◌<◌, ◌≤◌, if◌then◌else◌, Box, ap, subst, arith}
 use Rattle.nodes.specs.declared.types.Colour.TheVariants.{Red, Black}
 use Rattle.std.specs.declared.alloc.Global.{Global}
 use Rattle.nodes.specs.declared.types.Node.{Node}
@@ -13,21 +13,16 @@ within Empty w = (omega arith, omega arith)
 within (Place' p colour left item right sums) w =
     let l = within left w.4 in
     let r = within right w.5 in
-    (omega (arith, w, l, r), omega (arith, w, l, r))
-
-bound : {m n : ℕ} (b : Bool) → m + cond b 1 0 ≤ n → m ≤ n
-bound true h = omega (arith, h)
-bound false h = omega (arith, h)
+    (omega arith, omega arith)
 
 -- painted black, a tree is no taller than it is long
-pub low : {P T : Type 0} → (tree : Tree P T) → Weighed tree → blacks tree + cond (red tree) 1 0 ≤ long tree
+pub low : {P T : Type 0} → (tree : Tree P T) → Weighed tree → blacks tree + (if red tree then 1 else 0) ≤ long tree
 low Empty w = omega arith
-low (Place' p Red left item right sums) w = let l = bound (red left) (low left w.4) in omega (arith, w, l)
-low (Place' p Black left item right sums) w = let l = bound (red left) (low left w.4) in omega (arith, w, l)
+low (Place' p Red left item right sums) w = omega (arith, w, low left w.4)
+low (Place' p Black left item right sums) w = omega (arith, w, low left w.4)
 
 -- below a place there are fewer black places in a row than elements
 pub low_place : {P T : Type 0} → {tree : Tree P T} {place : Box (Node P T) Global} → tree ≡ Place place → Weighed tree → blacks place.value.left < long tree
 low_place {place = place} is w =
     let open_w = subst Weighed is w in
-    let l = bound (red place.value.left) (low place.value.left open_w.4) in
-    omega (arith, l, open_w.0, open_w.3, ap long is)
+    omega (arith, low place.value.left open_w.4, open_w.0, open_w.3, ap long is)

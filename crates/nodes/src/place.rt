@@ -13,12 +13,7 @@ pub fn sums<P: Copy, T: Total>(tree: &Tree<P, T>) -> Sums<T>
     ensures total { result.total ≡ whole T.neutral tree.now }
 {
     match tree {
-        Tree::Empty => Sums {
-            length: 0,
-            breaks: 0,
-            pieces: 0,
-            total: T::empty(),
-        },
+        Tree::Empty => Sums::none(),
         Tree::Place(place) => place.sums,
     }
 }
@@ -27,16 +22,11 @@ pub fn sums<P: Copy, T: Total>(tree: &Tree<P, T>) -> Sums<T>
 pub fn is_red<P, T>(tree: &Tree<P, T>) -> bool
     ensures { result ≡ red tree.now }
 {
-    match tree {
-        Tree::Empty => false,
-        Tree::Place(place) => match place.colour {
-            Colour::Red => true,
-            Colour::Black => false,
-        },
-    }
+    matches!(tree, Tree::Place(place) if place.colour == Colour::Red)
 }
 
 // The place over two sides, with the sums of all three in the order of the text.
+#[tactic(auto, using(crate::proofs::Bounds::within))]
 pub fn link<P: Copy, T: Total>(
     mut place: Box<Node<P, T>>,
     colour: Colour,
@@ -54,19 +44,12 @@ pub fn link<P: Copy, T: Total>(
     ensures summed { Summed T.neutral T.joined left → Summed T.neutral T.joined right → Summed T.neutral T.joined result }
     ensures colour { red result ≡ ruddy colour }
     ensures blacks { blacks result ≡ weight colour + blacks left }
-    ensures legal { blacks left ≡ blacks right → Calm colour left → Calm colour right → Legal left → Legal right → Legal result }
+    ensures legal { blacks left ≡ blacks right → Calm colour left → Calm colour right → Legal left → Legal right
+        → Legal result }
     ensures leans_right { blacks left ≡ blacks right → Calm colour left → Legal left → Legal right → LeansRight result }
     ensures leans_left { blacks left ≡ blacks right → Calm colour right → Legal left → Legal right → LeansLeft result }
 {
-    let before = sums(&left);
-    let after = sums(&right);
-    let item = place.item;
-    place.sums = Sums {
-        length: before.length + item.length + after.length,
-        breaks: before.breaks + item.breaks + after.breaks,
-        pieces: before.pieces + 1 + after.pieces,
-        total: before.total.join(item.total).join(after.total),
-    };
+    place.sums = sums(&left).join(&place.item, sums(&right));
     place.colour = colour;
     place.left = left;
     place.right = right;
@@ -82,8 +65,8 @@ pub fn unlink<P: Copy, T: Total>(
     ensures left { result.1 ≡ place.value.left }
     ensures right { result.2 ≡ place.value.right }
 {
-    let left = std::mem::replace(&mut place.left, Tree::Empty);
-    let right = std::mem::replace(&mut place.right, Tree::Empty);
+    let left = std::mem::take(&mut place.left);
+    let right = std::mem::take(&mut place.right);
     (place, left, right)
 }
 

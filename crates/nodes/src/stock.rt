@@ -3,43 +3,23 @@ ghost use Rattle.std.specs.Prelude.{◌≡◌, ℕ, ◌+◌, ◌<◌, ◌≤◌,
 ghost use Rattle.nodes.specs.Trees.{items, Bare};
 
 use crate::place::unlink;
-use crate::types::{Colour, Item, Node, Sums, Tree};
+use crate::types::{Item, Node, Tree};
 use measure::Total;
 use std::alloc::{AllocError, Global};
 
 // A stock of so many places, with room for no fewer. The item is only there to be replaced.
 pub fn fill<P: Copy, T: Total>(
-    heap: Global,
+    alloc: Global,
     count: usize,
     blank: Item<P, T>,
 ) -> Result<Vec<Box<Node<P, T>>>, AllocError>
     ensures { IfOk result (λ stock. (vec_len stock ≡ count) × (count ≤ vec_capacity stock)) }
 {
-    let mut stock = Vec::with_capacity(heap, count)?;
-    for _made in 0..count {
-        let place = Box::new(heap, blank_node(blank))?;
-        stock.push_reserved(place);
-    }
+    let mut stock = Vec::new(alloc);
+    stock.try_resize_with(count, || {
+        Box::new(alloc, Node::bare(blank)).map_err(AllocError::from)
+    })?;
     Ok(stock)
-}
-
-// A place in no tree.
-fn blank_node<P: Copy, T: Total>(item: Item<P, T>) -> Node<P, T>
-    ensures bare { Bare result }
-    ensures item { result.item ≡ item }
-{
-    Node {
-        colour: Colour::Red,
-        left: Tree::Empty,
-        item,
-        right: Tree::Empty,
-        sums: Sums {
-            length: 0,
-            breaks: 0,
-            pieces: 0,
-            total: item.total,
-        },
-    }
 }
 
 // A place of the stock, with this item.
@@ -54,9 +34,7 @@ pub fn draw<P: Copy, T: Total>(
     ensures capacity { vec_capacity stock.new ≡ vec_capacity stock.old }
 {
     let mut place = stock.pop().unwrap();
-    place.item = item;
-    place.left = Tree::Empty;
-    place.right = Tree::Empty;
+    *place = Node::bare(item);
     place
 }
 
