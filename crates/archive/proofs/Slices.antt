@@ -1,45 +1,40 @@
 -- Lists and their parts, read backwards. Assumes nothing.
-use Rattle.std.proofs.Common.{◌≡◌, ℕ, suc, ◌+◌, ◌-◌, ◌<◌, ◌≤◌, List, [], ◌∷◌, ◌++◌, reverse, length, get_or, take, drop, set, sym, ap, ◌∙◌, append_assoc, arith, length-drop, take-append-drop, length-take, drop-drop, take_at, drop_at}
-use mathlib.Core.List.{reverse-append, reverse-cons}
-use lib.ListN.{length-reverse}
-use lib.Seq.{set_split}
-use Rattle.std.proofs.lemmas.List.{drop_more, drop-take}
+use Rattle.std.proofs.Common.{◌≡◌, ℕ, suc, ◌+◌, ◌-◌, ◌<◌, ◌≤◌, zero, List, [], ◌∷◌, ◌++◌, reverse, length, take, drop, set, get_or, sym, ap, ◌∙◌, append_assoc, add-one, arith, length-drop, take-append-drop, length-take, drop-drop, take_at, drop_at}
+use Rattle.std.proofs.lemmas.List.{drop_more, drop-take, length-reverse, reverse-append, set_split}
 
 module _ {X : Type 0} where
   -- a list around one of its places
-  pub around : (xs : List X) (i : ℕ) (x : X) → i < length xs → xs ≡ take i xs ++ get_or xs i x ∷ drop (i + 1) xs
-  around xs i x lt =
-      sym (take-append-drop i xs) ∙ ap (λ l. take i xs ++ l) (drop_more xs i x lt)
+  pub around : (xs : List X) (i : ℕ) (d : X) → i < length xs → xs ≡ take i xs ++ get_or xs i d ∷ drop (i + 1) xs
+  around xs i d within = sym (take-append-drop i xs) ∙ ap (λ l. take i xs ++ l) (drop_more xs i d within)
 
   pub around_set : (xs : List X) (i : ℕ) (x : X) → i < length xs → set xs i x ≡ take i xs ++ x ∷ drop (i + 1) xs
-  around_set xs i x lt =
-      let on : suc i ≡ i + 1 = omega arith in set_split xs i x lt ∙ ap (λ k. take i xs ++ x ∷ drop k xs) on
+  around_set xs i x within = rw add-one (set_split xs i x within)
 
+  -- and read backwards
   pub reverse_around : (front : List X) (x : X) (back : List X) → reverse (front ++ x ∷ back) ≡ reverse back ++ x ∷ reverse front
   reverse_around front x back =
-      reverse-append front (x ∷ back) ∙ ap (λ l. l ++ reverse front) (reverse-cons x back)
+      reverse-append front (x ∷ back) ∙ ap (λ l. l ++ reverse front) (reverse-append (x ∷ []) back)
       ∙ append_assoc (reverse back) (x ∷ []) (reverse front)
-
-  -- how long the front is, read backwards
-  pub long_front : (xs : List X) (i : ℕ) → i ≤ length xs → length (reverse (take i xs)) ≡ i
-  long_front xs i le = let r = length-reverse (take i xs) in let t = length-take i xs in omega (arith, r, t)
-
-  long_back : (xs : List X) (i : ℕ) → length (reverse (drop i xs)) ≡ length xs - i
-  long_back xs i = length-reverse (drop i xs) ∙ length-drop i xs
 
   reverse_parts : (xs : List X) (i : ℕ) → reverse xs ≡ reverse (drop i xs) ++ reverse (take i xs)
   reverse_parts xs i = ap reverse (sym (take-append-drop i xs)) ∙ reverse-append (take i xs) (drop i xs)
 
-  -- what is left of a list read backwards is the front of it, read backwards
-  pub drop_reverse : (xs : List X) (i : ℕ) → drop (length xs - i) (reverse xs) ≡ reverse (take i xs)
-  drop_reverse xs i =
-      ap (drop (length xs - i)) (reverse_parts xs i)
-      ∙ drop_at (reverse (drop i xs)) (reverse (take i xs)) (length xs - i) (long_back xs i)
+  long_back : (xs : List X) (i : ℕ) → length (reverse (drop i xs)) ≡ length xs - i
+  long_back xs i = length-reverse (drop i xs) ∙ length-drop i xs
 
-  take_reverse : (xs : List X) (i : ℕ) → take (length xs - i) (reverse xs) ≡ reverse (drop i xs)
+  -- the front and the back of a list read backwards
+  pub take_reverse : (xs : List X) (i : ℕ) → take (length xs - i) (reverse xs) ≡ reverse (drop i xs)
   take_reverse xs i =
       ap (take (length xs - i)) (reverse_parts xs i)
       ∙ take_at (reverse (drop i xs)) (reverse (take i xs)) (length xs - i) (long_back xs i)
+
+  pub reverse_drop : (xs : List X) (i : ℕ) → reverse (drop i xs) ≡ take (length xs - i) (reverse xs)
+  reverse_drop xs i = sym (take_reverse xs i)
+
+  drop_reverse : (xs : List X) (i : ℕ) → drop (length xs - i) (reverse xs) ≡ reverse (take i xs)
+  drop_reverse xs i =
+      ap (drop (length xs - i)) (reverse_parts xs i)
+      ∙ drop_at (reverse (drop i xs)) (reverse (take i xs)) (length xs - i) (long_back xs i)
 
   -- a part of a list, in the list read backwards, where `loose` and then `newer` items stand behind it
   pub part_reverse : (xs : List X) (first count loose newer : ℕ) → first + count + newer + loose ≡ length xs

@@ -13,7 +13,7 @@ pub struct Entry {
 
 // A version: `count` entries, from `first` on, made out of its parent. The link is scratch: a child that a way through the
 // versions goes on to.
-#[derive(Clone, Copy)]
+#[derive(Clone, Copy, Debug, PartialEq, Eq)]
 pub struct Chapter {
     pub parent: usize,
     pub favoured: Option<usize>,

@@ -1,8 +1,8 @@
-use Rattle.archive.proofs.Filing.{newest_part}
+use Rattle.std.proofs.Common.{arith, rules}
+use Rattle.std.proofs.lemmas.List.{take_rest}
+use Rattle.std.proofs.lemmas.Grind.{common_steps}
+use Rattle.archive.proofs.Slices.{reverse_drop}
 use Rattle.archive.proofs.Archive.open_group.Goals as goal
 
 pub returns : goal.returns
-returns c =
-    let self = c.args.self.now in
-    let entries = self.entries in
-    newest_part self.sealed c.len.result entries.len c.deref.result.now entries.items c.deref.ensures.value c.len.ensures entries.ok.0
+returns c = rw (c.deref.ensures.value, take_rest, reverse_drop) (grind (arith))

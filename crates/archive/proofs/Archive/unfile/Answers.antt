@@ -1,47 +1,29 @@
-use Rattle.std.proofs.Common.{◌≤◌, reverse, sym, refl, ap, arith}
-use Rattle.archive.specs.Volumes.{volumes}
-use Rattle.archive.proofs.Filing.{filed_last, kept_first, one_off, some_past, stored_first, taken_last, taken_off}
-use Rattle.archive.proofs.Props.{stored}
+use Rattle.std.proofs.Common.{◌≡◌, suc, ◌-◌, ◌≤◌, refl, arith}
+use Rattle.archive.proofs.Filing.{length_open, reverse_last, runs_newest, stored_rest}
 use Rattle.archive.proofs.Archive.unfile.Goals as goal
 
-pub invariant_of-self : goal.invariant_of-self
-invariant_of-self c =
+pub invariant_of-self-clause-stored : goal.invariant_of-self-clause-stored
+invariant_of-self-clause-stored c =
     let self = c.args.self.now in
-    let popped = c.pop.ensures in
-    let newest = c.unwrap-newest.result in
-    let all = self.entries.items in
-    let rest = c.pop.new.self.items in
-    let items = taken_off all rest c.pop.result newest c.unwrap-newest.ensures popped.items in
-    let runs = stored_first all rest newest self.runs items (stored (reverse all) self.runs self.stored) in
-    let past = some_past all self.entries.len self.sealed c.requires.some in
-    let long = one_off self.entries.len c.pop.new.self.len c.pop.result newest c.unwrap-newest.ensures popped.len in
-    record { filed = self.filed; stored = ∣ runs.1 ∣₁; within = omega (arith, past, long) }
+    stored_rest self.entries.items c.pop.new.self.items c.unwrap-newest.result self.runs (rw c.unwrap-newest.ensures at c.pop.ensures.items) self.stored
 
-pub returns : goal.returns
-returns c =
+pub returns-clause-group : goal.returns-clause-group
+returns-clause-group c =
     let self = c.args.self.now in
-    let popped = c.pop.ensures in
-    let newest = c.unwrap-newest.result in
-    let all = self.entries.items in
-    let rest = c.pop.new.self.items in
-    let items = taken_off all rest c.pop.result newest c.unwrap-newest.ensures popped.items in
-    let runs = stored_first all rest newest self.runs items (stored (reverse all) self.runs self.stored) in
-    let m = self.entries.len in
-    let n = c.pop.new.self.len in
-    let past = some_past all m self.sealed c.requires.some in
-    let long = one_off m n c.pop.result newest c.unwrap-newest.ensures popped.len in
-    let within : self.sealed ≤ n = omega (arith, past, long) in
-    record {
-      entries = sym (filed_last all rest newest items);
-      group = sym (taken_last all rest newest m n self.sealed items long within);
-      runs = (refl, runs.0);
-      same =
-          record {
-            volumes = ap (volumes self.root (reverse self.chapters.items)) (sym (kept_first all rest newest m n self.sealed items long within));
-            chapters = refl;
-            root = refl;
-            sealed = refl;
-            link = refl;
-            capacity = popped.capacity;
-          };
-    }
+    let newest = reverse_last self.entries.items c.pop.new.self.items c.unwrap-newest.result (rw c.unwrap-newest.ensures at c.pop.ensures.items) in
+    let long = rw c.unwrap-newest.ensures at c.pop.ensures.len in
+    let more : self.entries.len - self.sealed ≡ suc (c.pop.new.self.len - self.sealed) = omega (arith, long, length_open self, c.requires.some) in
+    rw (newest, more) refl
+
+pub returns-clause-runs : goal.returns-clause-runs
+returns-clause-runs c =
+    let self = c.args.self.now in
+    (refl, runs_newest self.entries.items c.pop.new.self.items c.unwrap-newest.result self.runs (rw c.unwrap-newest.ensures at c.pop.ensures.items) self.stored)
+
+pub returns-clause-same : goal.returns-clause-same
+returns-clause-same c =
+    let self = c.args.self.now in
+    let newest = reverse_last self.entries.items c.pop.new.self.items c.unwrap-newest.result (rw c.unwrap-newest.ensures at c.pop.ensures.items) in
+    let long = rw c.unwrap-newest.ensures at c.pop.ensures.len in
+    let more : self.entries.len - self.sealed ≡ suc (c.pop.new.self.len - self.sealed) = omega (arith, long, length_open self, c.requires.some) in
+    record { volumes = rw (newest, more) refl; chapters = refl; sealed = refl; capacity = c.pop.ensures.capacity }
