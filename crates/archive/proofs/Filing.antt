@@ -1,7 +1,7 @@
 -- What an archive knows of its entries and chapters, where one is filed or taken back. Assumes nothing.
-use Rattle.std.proofs.Common.{◌≡◌, ℕ, ◌+◌, ◌-◌, List, [], ◌∷◌, ◌++◌, reverse, length, vec_items, vec_len, Option, Some, sym, ap, ◌∙◌, subst, arith}
+use Rattle.std.proofs.Common.{◌≡◌, ℕ, ◌+◌, ◌-◌, List, [], ◌∷◌, ◌++◌, reverse, length, take, drop, vec_items, vec_len, sym, ap, ◌∙◌, subst, arith}
 use Rattle.std.proofs.lemmas.List.{length-reverse, length-take, reverse-append}
-use Rattle.std.specs.Option.{option_to_list}
+use Rattle.archive.proofs.Slices.{part_reverse}
 use mathlib.Core.Logic.{∥∥₁_elim, ∥∥₁_map}
 use native.Mathlib.Nat.{ℕ_set}
 use Rattle.archive.specs.Archives.{loose, open_entries}
@@ -40,3 +40,11 @@ module _ (all rest : List Entry) (e : Entry) (n : ℕ) (last : all ≡ rest ++ e
 
   pub stored_rest : ∥ Stored (reverse rest) e.first ∥₁
   stored_rest = ∥∥₁_map parts (λ k. k.1)
+
+-- the part of the entries that is open
+pub open_part : (a : Archive)
+    → reverse (take (length (vec_items a.entries) - a.sealed) (drop a.sealed (vec_items a.entries))) ≡ open_entries a
+open_part a =
+    let items = vec_items a.entries in
+    part_reverse items a.sealed (length items - a.sealed) 0 (omega (arith, a.within, a.entries.ok.0))
+    ∙ ap (λ n. take (n - a.sealed) (reverse items)) (sym a.entries.ok.0)

@@ -1,5 +1,5 @@
 -- The versions of an archive by their numbers, and what another chapter for one of them makes of all. Assumes nothing.
-use Rattle.std.proofs.Common.{◌≡◌, ℕ, zero, suc, ◌+◌, ◌-◌, ◌<◌, ◌≤◌, List, [], ◌∷◌, ◌++◌, reverse, length, take, drop, map, set, Option, Some, vec_items, vec_len, sym, refl, ap, ◌∙◌, subst, arith, length-append}
+use Rattle.std.proofs.Common.{◌≡◌, ℕ, zero, suc, ◌+◌, ◌-◌, ◌<◌, ◌≤◌, List, [], ◌∷◌, ◌++◌, reverse, length, take, drop, map, set, Option, Some, vec_items, vec_len, sym, refl, ap, ◌∙◌, subst, arith, drop-drop}
 use Rattle.std.proofs.lemmas.List.{length-map, length-reverse, length-take, map-append}
 use Rattle.archive.specs.Archives.{entries_of, links_of, loose, volumes_of}
 use Rattle.archive.specs.Chapters.{by_number, chapter_of, with_chapter}
@@ -125,8 +125,9 @@ module _ (a : Archive) (k : ℕ) (made : k < length (volumes_of a)) where
   -- the part of the entries that the chapter tells is the version's
   pub found_entries : reverse (take c.count (drop c.first (vec_items a.entries))) ≡ entries_in (volume_at k (volumes_of a))
   found_entries =
-      part_reverse (vec_items a.entries) c.first c.count (loose a) (counts newer) (omega (arith, ends, a.within, a.entries.ok.0))
-      ∙ ap entries_in (sym found)
+      let long : c.first + c.count + (loose a + counts newer) ≡ length (vec_items a.entries) = omega (arith, ends, a.within, a.entries.ok.0) in
+      part_reverse (vec_items a.entries) c.first c.count (loose a + counts newer) long
+      ∙ ap (take c.count) (sym (drop-drop (counts newer) (loose a) (entries_of a))) ∙ ap entries_in (sym found)
 
   volumes_now : volumes_of a ≡ listed newer filed_entries ++ listed (c ∷ older) (drop (counts newer) filed_entries)
   volumes_now = volumes_around a.chapters newer c older parts filed_entries a.own_parent a.no_entries
@@ -184,3 +185,6 @@ module _ (a : Archive) (k : ℕ) (made : k < length (volumes_of a)) where
         volumes_with e same e.favoured next
         ∙ ap (λ x. listed newer filed_entries ++ listed (record c { favoured = x.favoured } ∷ older) (drop (counts newer) filed_entries)) same
         ∙ sym volumes_now
+
+-- what the chapter of a version tells
+pub ruleset chapters_found = (versions_made, found, found_link, within_entries, found_entries)

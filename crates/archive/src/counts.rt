@@ -6,6 +6,7 @@ use crate::Archive;
 
 impl Archive {
     // The number of versions, version 0 included.
+    #[tactic(auto, using(crate::proofs::Kept::versions_made))]
     pub fn version_count(&self) -> usize
         ensures { result ≡ length (volumes_of self.now) }
     {

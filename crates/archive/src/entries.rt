@@ -10,6 +10,7 @@ use marks::table::Marks;
 
 impl Archive {
     // The entries that are in no version, the oldest first.
+    #[tactic(auto, using(crate::proofs::Filing::open_part))]
     pub fn open_group(&self) -> &[Entry]
         ensures { reverse result.now ≡ open_entries self.now }
     {

@@ -1,5 +1,5 @@
 // Versions by their numbers: parent, favoured child, entries and links.
-#![tactic(auto, using(crate::proofs::Kept::versions_made, crate::proofs::Kept::found, crate::proofs::Kept::found_link, crate::proofs::Kept::within_entries, crate::proofs::Kept::found_entries))]
+#![tactic(auto, using(crate::proofs::Kept::chapters_found))]
 
 ghost use Rattle.std.specs.Prelude.{◌≡◌, ◌<◌, reverse, length};
 ghost use Rattle.archive.specs.Archives.{links_of, volumes_of, SameEntries};
