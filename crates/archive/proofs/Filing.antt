@@ -1,10 +1,10 @@
 -- What an archive knows of its entries and chapters, where one is filed or taken back. Assumes nothing.
-use Rattle.std.proofs.Common.{◌≡◌, ℕ, ◌+◌, ◌-◌, List, [], ◌∷◌, ◌++◌, reverse, length, take, drop, vec_items, vec_len, sym, ap, ◌∙◌, subst, arith}
+use Rattle.std.proofs.Common.{◌≡◌, ℕ, suc, ◌+◌, ◌-◌, ◌<◌, List, [], ◌∷◌, ◌++◌, reverse, length, take, drop, vec_items, vec_len, sym, ap, ◌∙◌, subst, arith}
 use Rattle.std.proofs.lemmas.List.{length-reverse, length-take, reverse-append}
 use Rattle.archive.proofs.Slices.{part_reverse}
 use mathlib.Core.Logic.{∥∥₁_elim, ∥∥₁_map}
 use native.Mathlib.Nat.{ℕ_set}
-use Rattle.archive.specs.Archives.{loose, open_entries}
+use Rattle.archive.specs.Archives.{entries_of, loose, open_entries}
 use Rattle.archive.specs.Volumes.{Filed, Stored}
 use Rattle.archive.specs.declared.Archive.{Archive}
 use Rattle.archive.specs.declared.types.Chapter.{Chapter}
@@ -25,10 +25,11 @@ pub stored_last : (after before : List Entry) (e : Entry) (n : ℕ) → after �
 stored_last after before e n last runs known =
     subst (λ l. ∥ Stored l n ∥₁) (sym (reverse_last after before e last)) (∥∥₁_map known (λ k. (runs, k)))
 
-pub filed_last : (after before : List Chapter) (c : Chapter) (n : ℕ) → after ≡ before ++ c ∷ [] → c.first + c.count ≡ n
-    → ∥ Filed (reverse before) c.first ∥₁ → ∥ Filed (reverse after) n ∥₁
-filed_last after before c n last entries known =
-    subst (λ l. ∥ Filed l n ∥₁) (sym (reverse_last after before c last)) (∥∥₁_map known (λ k. (entries, k)))
+pub filed_last : (root : Chapter) (after before : List Chapter) (c : Chapter) (n : ℕ) → after ≡ before ++ c ∷ [] → c.first + c.count ≡ n
+    → ∥ Filed (reverse (root ∷ before)) c.first ∥₁ → ∥ Filed (reverse (root ∷ after)) n ∥₁
+filed_last root after before c n last entries known =
+    subst (λ l. ∥ Filed l n ∥₁) (sym (reverse_last (root ∷ after) (root ∷ before) c (ap (λ l. root ∷ l) last)))
+    (∥∥₁_map known (λ k. (entries, k)))
 
 -- the newest entry, and what is left without it
 module _ (all rest : List Entry) (e : Entry) (n : ℕ) (last : all ≡ rest ++ e ∷ []) (known : ∥ Stored (reverse all) n ∥₁) where
@@ -48,3 +49,18 @@ open_part a =
     let items = vec_items a.entries in
     part_reverse items a.sealed (length items - a.sealed) 0 (omega (arith, a.within, a.entries.ok.0))
     ∙ ap (λ n. take (n - a.sealed) (reverse items)) (sym a.entries.ok.0)
+
+-- the entries that are open without the newest, and those that are not
+module _ (a : Archive) (rest : List Entry) (e : Entry) (n : ℕ)
+    (last : vec_items a.entries ≡ rest ++ e ∷ []) (fewer : n + 1 ≡ vec_len a.entries) (some : 0 < length (open_entries a)) where
+  newest : reverse (vec_items a.entries) ≡ e ∷ reverse rest
+  newest = reverse_last (vec_items a.entries) rest e last
+
+  one_more : loose a ≡ suc (n - a.sealed)
+  one_more = omega (arith, fewer, some, length_open a)
+
+  pub open_rest : e ∷ take (n - a.sealed) (reverse rest) ≡ open_entries a
+  open_rest = sym (ap (take (loose a)) newest ∙ ap (λ m. take m (e ∷ reverse rest)) one_more)
+
+  pub closed_rest : drop (n - a.sealed) (reverse rest) ≡ drop (loose a) (entries_of a)
+  closed_rest = sym (ap (drop (loose a)) newest ∙ ap (λ m. drop m (e ∷ reverse rest)) one_more)

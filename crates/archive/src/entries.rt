@@ -18,6 +18,7 @@ impl Archive {
     }
 
     // Files a step with the marks before it, and the last `kept` runs as its own.
+    #[tactic(auto, using(crate::proofs::Filing::stored_last))]
     pub fn file(&mut self, step: Step, marks: Marks, kept: usize)
         requires room { vec_len self.old.entries < vec_capacity self.old.entries }
         requires fits { self.old.runs + kept < 2 ^ 64 }
@@ -36,6 +37,7 @@ impl Archive {
     }
 
     // Takes the newest entry of an open group back, with its runs.
+    #[tactic(auto, using(crate::proofs::Filing::length_open, crate::proofs::Filing::stored_rest, crate::proofs::Filing::runs_newest, crate::proofs::Filing::open_rest, crate::proofs::Filing::closed_rest))]
     pub fn unfile(&mut self) -> Entry
         requires some { 0 < length (open_entries self.old) }
         ensures entries { result ∷ entries_of self.new ≡ entries_of self.old }
@@ -49,6 +51,7 @@ impl Archive {
     }
 
     // Makes the entries that are in no version the next version, a child of `parent`.
+    #[tactic(auto, using(crate::proofs::Filing::filed_last))]
     pub fn seal(&mut self, parent: usize)
         requires room { vec_len self.old.chapters.later < vec_capacity self.old.chapters.later }
         ensures versions { volumes_of self.new ≡ volume parent None (open_entries self.old) ∷ volumes_of self.old }

@@ -36,6 +36,7 @@ impl Archive {
     }
 
     // Makes a child the favoured one of a version.
+    #[tactic(auto, using(crate::proofs::Kept::versions_made, crate::proofs::Kept::still_kept, crate::proofs::Kept::favoured_volumes, crate::proofs::Kept::favoured_links))]
     pub fn favour(&mut self, version: usize, child: usize)
         requires made { version < length (volumes_of self.old) }
         ensures versions { volumes_of self.new ≡ favouring_at version child (volumes_of self.old) }
@@ -54,6 +55,7 @@ impl Archive {
     }
 
     // Links a version to another.
+    #[tactic(auto, using(crate::proofs::Kept::versions_made, crate::proofs::Kept::still_kept, crate::proofs::Kept::linked_volumes, crate::proofs::Kept::linked_links))]
     pub fn set_link(&mut self, version: usize, next: usize)
         requires made { version < length (volumes_of self.old) }
         ensures links { links_of self.new ≡ linking_at version next (links_of self.old) }
