@@ -1,4 +1,5 @@
 pub mod Filing
 pub mod Kept
+pub mod Lent
 pub mod Numbered
 pub mod Slices

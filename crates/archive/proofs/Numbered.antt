@@ -1,35 +1,41 @@
 -- Volumes and links by their numbers. All lists are newest first: the number of each is how many are older. Assumes nothing.
-use Rattle.std.proofs.Common.{◌≡◌, ℕ, suc, ◌+◌, List, [], ◌∷◌, ◌++◌, reverse, length, take, drop, map, Some, None, Option, sym, refl, ap, ◌∙◌, subst, arith, length-append, drop-drop}
-use Rattle.std.proofs.lemmas.List.{map-append}
+use Rattle.std.proofs.Common.{◌≡◌, ℕ, suc, ◌+◌, List, [], ◌∷◌, ◌++◌, length, take, drop, map, Some, sym, refl, ap, ◌∙◌, subst, arith, length-append, drop-drop}
 use Rattle.std.proofs.lemmas.Bool.Decides.{nat_tests}
 use Rattle.archive.specs.Volumes.{Volume, volume, volumes, volume_at, favouring_at, links, link_at, linking_at, Filed}
 use Rattle.archive.specs.declared.types.Chapter.{Chapter}
 use Rattle.archive.specs.declared.types.Entry.{Entry}
 
--- what stands behind others, where as many are older as its number says
+-- the one that has as many older ones as its number says
 module _ (k : ℕ) where
-  pub volume_at_number : (newer : List Volume) (v : Volume) (older : List Volume) → k ≡ length older → volume_at k (newer ++ v ∷ older) ≡ Some v
+  pub volume_at_number : (newer : List Volume) (v : Volume) (older : List Volume) → k ≡ length older
+      → volume_at k (newer ++ v ∷ older) ≡ Some v
   volume_at_number [] v older number = grind (arith, nat_tests)
-  volume_at_number (u ∷ newer) v older number = grind (arith, nat_tests, length-append newer (v ∷ older), volume_at_number newer v older number)
+  volume_at_number (u ∷ newer) v older number =
+      let h = volume_at_number newer v older number in grind (arith, nat_tests, length-append)
 
-  pub favouring_at_number : (child : ℕ) (newer : List Volume) (v : Volume) (older : List Volume) → k ≡ length older → favouring_at k child (newer ++ v ∷ older) ≡ newer ++ volume v.parent (Some child) v.entries ∷ older
+  pub favouring_at_number : (child : ℕ) (newer : List Volume) (v : Volume) (older : List Volume) → k ≡ length older
+      → favouring_at k child (newer ++ v ∷ older) ≡ newer ++ volume v.parent (Some child) v.entries ∷ older
   favouring_at_number child [] v older number = grind (arith, nat_tests)
-  favouring_at_number child (u ∷ newer) v older number = grind (arith, nat_tests, length-append newer (v ∷ older), favouring_at_number child newer v older number)
+  favouring_at_number child (u ∷ newer) v older number =
+      let h = favouring_at_number child newer v older number in grind (arith, nat_tests, length-append)
 
   pub link_at_number : (newer : List ℕ) (l : ℕ) (older : List ℕ) → k ≡ length older → link_at k (newer ++ l ∷ older) ≡ l
   link_at_number [] l older number = grind (arith, nat_tests)
-  link_at_number (m ∷ newer) l older number = grind (arith, nat_tests, length-append newer (l ∷ older), link_at_number newer l older number)
+  link_at_number (m ∷ newer) l older number =
+      let h = link_at_number newer l older number in grind (arith, nat_tests, length-append)
 
-  pub linking_at_number : (next : ℕ) (newer : List ℕ) (l : ℕ) (older : List ℕ) → k ≡ length older → linking_at k next (newer ++ l ∷ older) ≡ newer ++ next ∷ older
+  pub linking_at_number : (next : ℕ) (newer : List ℕ) (l : ℕ) (older : List ℕ) → k ≡ length older
+      → linking_at k next (newer ++ l ∷ older) ≡ newer ++ next ∷ older
   linking_at_number next [] l older number = grind (arith, nat_tests)
-  linking_at_number next (m ∷ newer) l older number = grind (arith, nat_tests, length-append newer (l ∷ older), linking_at_number next newer l older number)
+  linking_at_number next (m ∷ newer) l older number =
+      let h = linking_at_number next newer l older number in grind (arith, nat_tests, length-append)
 
 -- how many entries chapters have
 abbrev pub counts : List Chapter → ℕ
 counts [] = 0
 counts (c ∷ older) = c.count + counts older
 
--- the volumes of chapters, where version 0 has one like any other
+-- the volumes of chapters, where version 0 has a chapter like any other
 abbrev pub listed : List Chapter → List Entry → List Volume
 listed [] es = []
 listed (c ∷ older) es = volume c.parent c.favoured (take c.count es) ∷ listed older (drop c.count es)
@@ -37,7 +43,7 @@ listed (c ∷ older) es = volume c.parent c.favoured (take c.count es) ∷ liste
 pub volumes-root : (root : Chapter) (cs : List Chapter) (es : List Entry) → root.parent ≡ 0 → root.count ≡ 0
     → volumes root.favoured cs es ≡ listed (cs ++ root ∷ []) es
 volumes-root root [] es parent count =
-    (λ i. volume (sym parent i) root.favoured (take (sym count i) es) ∷ [])
+    sym (ap (λ n. volume root.parent root.favoured (take n es) ∷ []) count ∙ ap (λ n. volume n root.favoured [] ∷ []) parent)
 volumes-root root (c ∷ older) es parent count =
     ap (λ vs. volume c.parent c.favoured (take c.count es) ∷ vs) (volumes-root root older (drop c.count es) parent count)
 
@@ -53,19 +59,20 @@ pub listed-append : (newer older : List Chapter) (es : List Entry)
     → listed (newer ++ older) es ≡ listed newer es ++ listed older (drop (counts newer) es)
 listed-append [] older es = refl
 listed-append (c ∷ newer) older es =
+    let rest = drop c.count es in
     ap (λ vs. volume c.parent c.favoured (take c.count es) ∷ vs)
-    (listed-append newer older (drop c.count es) ∙ ap (λ l. listed newer (drop c.count es) ++ listed older l) (drop-drop (counts newer) c.count es))
+    (listed-append newer older rest ∙ ap (λ l. listed newer rest ++ listed older l) (drop-drop (counts newer) c.count es))
 
 -- chapters with as many entries in the same place are filed alike
-pub filed_alike : (newer : List Chapter) (c d : Chapter) (older : List Chapter) (n : ℕ) → d.first ≡ c.first → d.count ≡ c.count
-    → Filed (newer ++ c ∷ older) n → Filed (newer ++ d ∷ older) n
+pub filed_alike : (newer : List Chapter) (c d : Chapter) (older : List Chapter) (n : ℕ)
+    → d.first ≡ c.first → d.count ≡ c.count → Filed (newer ++ c ∷ older) n → Filed (newer ++ d ∷ older) n
 filed_alike [] c d older n first count filed =
-    (ap (λ m. m + d.count) first ∙ ap (λ m. c.first + m) count ∙ filed.0, subst (Filed older) (sym first) filed.1)
+    let entries = filed.0 in (omega (arith, first, count, entries), subst (Filed older) (sym first) filed.1)
 filed_alike (e ∷ newer) c d older n first count filed = (filed.0, filed_alike newer c d older e.first first count filed.1)
 
 -- the entries of a chapter end where those of the newer ones start
 pub filed_before : (newer : List Chapter) (c : Chapter) (older : List Chapter) (n : ℕ) → Filed (newer ++ c ∷ older) n
     → c.first + c.count + counts newer ≡ n
-filed_before [] c older n filed = let e = filed.0 in omega (arith, e)
+filed_before [] c older n filed = let entries = filed.0 in omega (arith, entries)
 filed_before (d ∷ newer) c older n filed =
-    let e = filed.0 in let h = filed_before newer c older d.first filed.1 in omega (arith, e, h)
+    let entries = filed.0 in let h = filed_before newer c older d.first filed.1 in omega (arith, entries, h)

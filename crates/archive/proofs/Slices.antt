@@ -1,5 +1,5 @@
 -- Lists around their places and parts, and read backwards. Assumes nothing.
-use Rattle.std.proofs.Common.{◌≡◌, ℕ, ◌+◌, ◌-◌, ◌<◌, List, [], ◌∷◌, ◌++◌, reverse, length, get_or, take, drop, set, min, sym, ap, ◌∙◌, append_assoc, add-one, arith, length-drop, take-append-drop, length-take, take_at, drop_at}
+use Rattle.std.proofs.Common.{◌≡◌, ℕ, ◌+◌, ◌<◌, List, [], ◌∷◌, ◌++◌, reverse, length, get_or, take, drop, set, sym, ap, ◌∙◌, append_assoc, add-one, arith, length-drop, take-append-drop, length-take, take_at, drop_at}
 use Rattle.std.proofs.lemmas.List.{drop_more, length-reverse, reverse-append, set_split}
 
 module _ {X : Type 0} where
@@ -11,7 +11,8 @@ module _ {X : Type 0} where
   around_set xs i x within = rw add-one (set_split xs i x within)
 
   -- three parts, read backwards
-  reverse_parts : (front part back : List X) → reverse (front ++ (part ++ back)) ≡ reverse back ++ (reverse part ++ reverse front)
+  reverse_parts : (front part back : List X)
+      → reverse (front ++ (part ++ back)) ≡ reverse back ++ (reverse part ++ reverse front)
   reverse_parts front part back =
       reverse-append front (part ++ back) ∙ ap (λ l. l ++ reverse front) (reverse-append part back)
       ∙ append_assoc (reverse back) (reverse part) (reverse front)
@@ -26,9 +27,10 @@ module _ {X : Type 0} where
       let rest = drop first xs in
       let part = reverse (take count rest) in
       let back = reverse (drop count rest) in
-      let front = reverse (take first xs) in
+      let others = part ++ reverse (take first xs) in
       let whole = ap (λ l. take first xs ++ l) (take-append-drop count rest) ∙ take-append-drop first xs in
-      let backwards : reverse xs ≡ back ++ (part ++ front) = ap reverse (sym whole) ∙ reverse_parts (take first xs) (take count rest) (drop count rest) in
-      sym (ap (λ l. take count (drop behind l)) backwards
-      ∙ ap (take count) (drop_at back (part ++ front) behind (simp (length-reverse, length-drop) (omega (arith, long))))
-      ∙ take_at part front count (simp (length-reverse, length-take, length-drop) (omega (arith, long))))
+      let backwards = ap reverse (sym whole) ∙ reverse_parts (take first xs) (take count rest) (drop count rest) in
+      let long_part : length part ≡ count = simp (length-reverse, length-take, length-drop) (omega (arith, long)) in
+      let long_back : length back ≡ behind = simp (length-reverse, length-drop) (omega (arith, long)) in
+      sym (ap (λ l. take count (drop behind l)) backwards ∙ ap (take count) (drop_at back others behind long_back)
+      ∙ take_at part (reverse (take first xs)) count long_part)

@@ -41,7 +41,9 @@ impl Archive {
         ensures { (result.0 ≡ self.chapters.later) × (result.1 ≡ self.entries) }
     {
         let Archive {
-            chapters, entries, ..
+            chapters,
+            entries,
+            ..
         } = self;
         (chapters.later, entries)
     }

@@ -5,7 +5,7 @@ ghost use Rattle.archive.specs.Chapters.{by_number, chapter_of, LendsChapter};
 
 use crate::types::Chapter;
 
-// The chapter of version 0 is a field: it stands even where no memory was given.
+// The chapter of version 0 is a field, for it stands even where no memory was given. What tells it from the others stands here alone.
 #[derive(Drop)]
 pub struct Chapters {
     pub root: Chapter,
@@ -32,7 +32,7 @@ impl Chapters {
         }
     }
 
-    // The chapter of a version, to be changed.
+    // The chapter of a version, to be changed: beside `get`, as a slice has both.
     pub fn get_mut(&mut self, version: usize) -> &mut Chapter
         requires { version < length (by_number self.old) }
         ensures* writes_back { sem 𝓛 (LendsChapter self.entry version result) }

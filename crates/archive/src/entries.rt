@@ -37,7 +37,7 @@ impl Archive {
     }
 
     // Takes the newest entry of an open group back, with its runs.
-    #[tactic(auto, using(crate::proofs::Filing::length_open, crate::proofs::Filing::stored_rest, crate::proofs::Filing::runs_newest, crate::proofs::Filing::open_rest, crate::proofs::Filing::closed_rest))]
+    #[tactic(auto, using(crate::proofs::Filing::without_newest))]
     pub fn unfile(&mut self) -> Entry
         requires some { 0 < length (open_entries self.old) }
         ensures entries { result ∷ entries_of self.new ≡ entries_of self.old }

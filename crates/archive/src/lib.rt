@@ -17,6 +17,7 @@ use crate::types::Entry;
 
 // The first `sealed` entries are those of versions, any others those of an open group. `runs` is the number of kept runs that the
 // entries have. Version 0 is its own parent and has no entries.
+// There is no Model: clauses promise the very vectors, which go back to the caller in the end.
 #[derive(Drop)]
 pub struct Archive {
     chapters: Chapters,

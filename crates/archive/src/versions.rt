@@ -1,4 +1,6 @@
 // Versions by their numbers: parent, favoured child, entries and links.
+// The numbers are plain, as in the lists that an archive stands for: of a newtype each clause would only take its number.
+// Each call asks that its version is made: a number that carried this could not say of which archive.
 #![tactic(auto, using(crate::proofs::Kept::chapters_found))]
 
 ghost use Rattle.std.specs.Prelude.{◌≡◌, ◌<◌, reverse, length};
@@ -36,7 +38,7 @@ impl Archive {
     }
 
     // Makes a child the favoured one of a version.
-    #[tactic(auto, using(crate::proofs::Kept::versions_made, crate::proofs::Kept::still_kept, crate::proofs::Kept::favoured_volumes, crate::proofs::Kept::favoured_links))]
+    #[tactic(auto, using(crate::proofs::Kept::chapters_favoured))]
     pub fn favour(&mut self, version: usize, child: usize)
         requires made { version < length (volumes_of self.old) }
         ensures versions { volumes_of self.new ≡ favouring_at version child (volumes_of self.old) }
@@ -55,7 +57,7 @@ impl Archive {
     }
 
     // Links a version to another.
-    #[tactic(auto, using(crate::proofs::Kept::versions_made, crate::proofs::Kept::still_kept, crate::proofs::Kept::linked_volumes, crate::proofs::Kept::linked_links))]
+    #[tactic(auto, using(crate::proofs::Kept::chapters_linked))]
     pub fn set_link(&mut self, version: usize, next: usize)
         requires made { version < length (volumes_of self.old) }
         ensures links { links_of self.new ≡ linking_at version next (links_of self.old) }
