@@ -1,69 +1,70 @@
--- Records newest first, where one more is filed at the end of the list. Assumes nothing.
-use Rattle.std.proofs.Common.{◌≡◌, ℕ, suc, ◌+◌, ◌-◌, ◌<◌, ◌≤◌, List, [], ◌∷◌, ◌++◌, reverse, length, take, drop, Some, Option, sym, ap, ◌∙◌, subst, arith}
-use Rattle.std.proofs.lemmas.List.{length-drop, length-reverse, length-take, reverse-append, take-append-drop, take_at, take_rest}
-use Rattle.std.specs.Option.{option_to_list}
+-- What an archive knows of its entries and chapters, where one is filed or taken back. Assumes nothing.
+use Rattle.std.proofs.Common.{◌≡◌, ℕ, suc, ◌+◌, ◌-◌, ◌<◌, List, [], ◌∷◌, ◌++◌, reverse, length, take, drop, vec_items, vec_len, sym, ap, ◌∙◌, subst, arith}
+use Rattle.std.proofs.lemmas.List.{length-reverse, length-take, reverse-append}
+use Rattle.std.proofs.Math.Logic.{∥∥₁_elim, ∥∥₁_map}
+use Rattle.std.proofs.Math.Nat.{ℕ_set}
+use Rattle.archive.specs.Archives.{entries_of, loose, open_entries}
+use Rattle.archive.specs.Volumes.{Filed, Stored}
+use Rattle.archive.specs.declared.Archive.{Archive}
 use Rattle.archive.specs.declared.types.Chapter.{Chapter}
 use Rattle.archive.specs.declared.types.Entry.{Entry}
-use Rattle.archive.specs.Volumes.{volume, volumes, links, Filed, Stored}
+use Rattle.archive.proofs.Slices.{part_reverse}
 
-module _ {X : Type 0} where
-  -- what is filed last is the newest
-  pub filed_last : (after before : List X) (x : X) → after ≡ before ++ x ∷ [] → reverse after ≡ x ∷ reverse before
-  filed_last after before x e = ap reverse e ∙ reverse-append before (x ∷ [])
+-- what is filed last is the newest
+reverse_last : {X : Type 0} (after before : List X) (x : X) → after ≡ before ++ x ∷ [] → reverse after ≡ x ∷ reverse before
+reverse_last after before x last = ap reverse last ∙ reverse-append before (x ∷ [])
 
-  -- the newest past the first s: with one more filed, it is one of them
-  pub taken_last : (after before : List X) (x : X) (m n s : ℕ) → after ≡ before ++ x ∷ [] → m ≡ n + 1 → s ≤ n → take (m - s) (reverse after) ≡ x ∷ take (n - s) (reverse before)
-  taken_last after before x m n s e long within =
-      let on : m - s ≡ suc (n - s) = omega (arith, long, within) in
-      ap (take (m - s)) (filed_last after before x e) ∙ ap (λ k. take k (x ∷ reverse before)) on
+-- an entry whose runs stand right behind the others, and a chapter whose entries do
+pub stored_last : (after before : List Entry) (e : Entry) (n : ℕ) → after ≡ before ++ e ∷ [] → e.first + e.kept ≡ n
+    → ∥ Stored (reverse before) e.first ∥₁ → ∥ Stored (reverse after) n ∥₁
+stored_last after before e n last runs known =
+    subst (λ l. ∥ Stored l n ∥₁) (sym (reverse_last after before e last)) (∥∥₁_map known (λ k. (runs, k)))
 
-  -- and the first s are the same
-  pub kept_first : (after before : List X) (x : X) (m n s : ℕ) → after ≡ before ++ x ∷ [] → m ≡ n + 1 → s ≤ n → drop (m - s) (reverse after) ≡ drop (n - s) (reverse before)
-  kept_first after before x m n s e long within =
-      let on : m - s ≡ suc (n - s) = omega (arith, long, within) in
-      ap (drop (m - s)) (filed_last after before x e) ∙ ap (λ k. drop k (x ∷ reverse before)) on
+pub filed_last : (root : Chapter) (after before : List Chapter) (c : Chapter) (n : ℕ)
+    → after ≡ before ++ c ∷ [] → c.first + c.count ≡ n
+    → ∥ Filed (reverse (root ∷ before)) c.first ∥₁ → ∥ Filed (reverse (root ∷ after)) n ∥₁
+filed_last root after before c n last entries known =
+    let newest = reverse_last (root ∷ after) (root ∷ before) c (ap (λ l. root ∷ l) last) in
+    subst (λ l. ∥ Filed l n ∥₁) (sym newest) (∥∥₁_map known (λ k. (entries, k)))
 
-  -- where some are past the first s, the first s do not reach the last
-  pub some_past : (all : List X) (n s : ℕ) → 0 < length (take (n - s) (reverse all)) → s < n
-  some_past all n s some = omega (arith, some, length-take (n - s) (reverse all))
+-- the newest entry, and what is left without it
+module _ (all rest : List Entry) (e : Entry) (n : ℕ) (last : all ≡ rest ++ e ∷ []) (known : ∥ Stored (reverse all) n ∥₁) where
+  parts : ∥ Stored (e ∷ reverse rest) n ∥₁
+  parts = subst (λ l. ∥ Stored l n ∥₁) (reverse_last all rest e last) known
 
-  -- what is taken from the end was the last
-  pub taken_off : (all rest : List X) (r : Option X) (x : X) → r ≡ Some x → all ≡ rest ++ option_to_list r → all ≡ rest ++ x ∷ []
-  taken_off all rest r x some items = items ∙ ap (λ o. rest ++ option_to_list o) some
+  pub runs_newest : e.first + e.kept ≡ n
+  runs_newest = ∥∥₁_elim parts (ℕ_set (e.first + e.kept) n) (λ k. k.0)
 
-  -- and it was one
-  pub one_off : (m n : ℕ) (r : Option X) (x : X) → r ≡ Some x → n + length (option_to_list r) ≡ m → m ≡ n + 1
-  one_off m n r x some long = sym long ∙ ap (λ o. n + length (option_to_list o)) some
+  pub stored_rest : ∥ Stored (reverse rest) e.first ∥₁
+  stored_rest = ∥∥₁_map parts (λ k. k.1)
 
-  -- the list past its first s, newest first
-  pub newest_past : (s : ℕ) (all : List X) → reverse (drop s all) ≡ take (length all - s) (reverse all)
-  newest_past s all =
-      let long : length (reverse (drop s all)) ≡ length all - s = length-reverse (drop s all) ∙ length-drop s all in
-      let parts : reverse all ≡ reverse (drop s all) ++ reverse (take s all) = ap reverse (sym (take-append-drop s all)) ∙ reverse-append (take s all) (drop s all) in
-      sym (ap (take (length all - s)) parts ∙ take_at (reverse (drop s all)) (reverse (take s all)) (length all - s) long)
+-- how many entries are open, and which part of all
+module _ (a : Archive) where
+  abbrev items : List Entry
+  items = vec_items a.entries
 
-  -- the part of a list from s to its end, newest first
-  pub newest_part : (s m n : ℕ) (part all : List X) → part ≡ all → m ≡ n → n ≡ length all → reverse (take (m - s) (drop s part)) ≡ take (n - s) (reverse all)
-  newest_part s m n part all same ends long =
-      let whole : m ≡ length all = ends ∙ long in
-      (λ i. reverse (take (whole i - s) (drop s (same i)))) ∙ ap reverse (take_rest all s) ∙ newest_past s all ∙ ap (λ k. take (k - s) (reverse all)) (sym long)
+  pub length_open : length (open_entries a) ≡ vec_len a.entries - a.sealed
+  length_open = omega (arith, length-take (loose a) (reverse items), length-reverse items, a.entries.ok.0)
 
--- an entry whose runs stand right behind the others
-pub stored_last : (after before : List Entry) (e : Entry) (n : ℕ) → after ≡ before ++ e ∷ [] → e.first + e.kept ≡ n → Stored (reverse before) e.first → Stored (reverse after) n
-stored_last after before e n same runs known = subst (λ l. Stored l n) (sym (filed_last after before e same)) (runs, known)
+  pub open_part : reverse (take (length items - a.sealed) (drop a.sealed items)) ≡ open_entries a
+  open_part =
+      part_reverse items a.sealed (length items - a.sealed) 0 (omega (arith, a.within, a.entries.ok.0))
+      ∙ ap (λ n. take (n - a.sealed) (reverse items)) (sym a.entries.ok.0)
 
--- the newest entry and those before it
-pub stored_first : (after before : List Entry) (e : Entry) (n : ℕ) → after ≡ before ++ e ∷ [] → Stored (reverse after) n → (e.first + e.kept ≡ n) × Stored (reverse before) e.first
-stored_first after before e n same known = subst (λ l. Stored l n) (filed_last after before e same) known
+  -- those that are open without the newest, and those that are not
+  module _ (rest : List Entry) (e : Entry) (n : ℕ)
+      (last : items ≡ rest ++ e ∷ []) (fewer : n + 1 ≡ vec_len a.entries) (some : 0 < length (open_entries a)) where
+    newest : reverse items ≡ e ∷ reverse rest
+    newest = reverse_last items rest e last
 
--- a chapter whose entries stand right behind the others
-pub filed_more : (after before : List Chapter) (c : Chapter) (n : ℕ) → after ≡ before ++ c ∷ [] → c.first + c.count ≡ n → Filed (reverse before) c.first → Filed (reverse after) n
-filed_more after before c n same entries known = subst (λ l. Filed l n) (sym (filed_last after before c same)) (entries, known)
+    one_more : loose a ≡ suc (n - a.sealed)
+    one_more = omega (arith, fewer, some, length_open)
 
--- the volumes with one more chapter
-pub volumes_more : (root : Option ℕ) (after before : List Chapter) (c : Chapter) (entries : List Entry) → after ≡ before ++ c ∷ [] → volumes root (reverse after) entries ≡ volume c.parent c.favoured (take c.count entries) ∷ volumes root (reverse before) (drop c.count entries)
-volumes_more root after before c entries same = ap (λ l. volumes root l entries) (filed_last after before c same)
+    pub open_rest : e ∷ take (n - a.sealed) (reverse rest) ≡ open_entries a
+    open_rest = sym (ap (take (loose a)) newest ∙ ap (λ m. take m (e ∷ reverse rest)) one_more)
 
--- and their links
-pub links_more : (link : ℕ) (after before : List Chapter) (c : Chapter) → after ≡ before ++ c ∷ [] → links link (reverse after) ≡ c.link ∷ links link (reverse before)
-links_more link after before c same = ap (links link) (filed_last after before c same)
+    pub closed_rest : drop (n - a.sealed) (reverse rest) ≡ drop (loose a) (entries_of a)
+    closed_rest = sym (ap (drop (loose a)) newest ∙ ap (λ m. drop m (e ∷ reverse rest)) one_more)
+
+-- what is known without the newest entry
+pub ruleset without_newest = (length_open, runs_newest, stored_rest, open_rest, closed_rest)

@@ -18,19 +18,17 @@ module _ (a : Archive) where
 
   -- the versions, with their entries
   abbrev pub volumes_of : List Volume
-  volumes_of = volumes a.root (reverse (vec_items a.chapters)) (drop loose entries_of)
+  volumes_of = volumes a.chapters.root.favoured (reverse (vec_items a.chapters.later)) (drop loose entries_of)
 
   -- the links of the versions
   abbrev pub links_of : List ℕ
-  links_of = links a.link (reverse (vec_items a.chapters))
+  links_of = links a.chapters.root.link (reverse (vec_items a.chapters.later))
 
 -- all but the entries is the same, and how much there is room for
 pub record SameVersions (before after : Archive) : Type 0 where
   pub volumes : volumes_of after ≡ volumes_of before
   pub chapters : after.chapters ≡ before.chapters
-  pub root : after.root ≡ before.root
   pub sealed : after.sealed ≡ before.sealed
-  pub link : after.link ≡ before.link
   pub capacity : vec_capacity after.entries ≡ vec_capacity before.entries
 
 -- all but the versions' favoured children and links is the same
@@ -38,4 +36,4 @@ pub record SameEntries (before after : Archive) : Type 0 where
   pub entries : after.entries ≡ before.entries
   pub open_entries : open_entries after ≡ open_entries before
   pub runs : after.runs ≡ before.runs
-  pub capacity : vec_capacity after.chapters ≡ vec_capacity before.chapters
+  pub capacity : vec_capacity after.chapters.later ≡ vec_capacity before.chapters.later

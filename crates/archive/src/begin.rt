@@ -4,26 +4,33 @@ ghost use Rattle.archive.specs.Archives.{entries_of, links_of, open_entries, vol
 ghost use Rattle.archive.specs.Volumes.{volume};
 
 use crate::Archive;
+use crate::chapters::Chapters;
 use crate::types::{Chapter, Entry};
 
 impl Archive {
     // An archive of version 0 alone.
-    pub fn begin(chapters: Vec<Chapter>, entries: Vec<Entry>) -> Archive
+    pub fn begin(mut chapters: Vec<Chapter>, mut entries: Vec<Entry>) -> Archive
         ensures versions { volumes_of result ≡ volume 0 None [] ∷ [] }
         ensures entries { (entries_of result ≡ []) × (open_entries result ≡ []) }
         ensures links { links_of result ≡ 0 ∷ [] }
         ensures runs { (result.runs ≡ 0) × (result.sealed ≡ 0) }
-        ensures capacity { (vec_capacity result.chapters ≡ vec_capacity chapters) × (vec_capacity result.entries ≡ vec_capacity entries) }
+        ensures capacity { (vec_capacity result.chapters.later ≡ vec_capacity chapters) × (vec_capacity result.entries ≡ vec_capacity entries) }
     {
-        let mut chapters = chapters;
-        let mut entries = entries;
         chapters.clear();
         entries.clear();
-        Archive {
-            chapters,
-            entries,
-            root: None,
+        let root = Chapter {
+            parent: 0,
+            favoured: None,
+            first: 0,
+            count: 0,
             link: 0,
+        };
+        Archive {
+            chapters: Chapters {
+                root,
+                later: chapters,
+            },
+            entries,
             sealed: 0,
             runs: 0,
         }
@@ -31,16 +38,13 @@ impl Archive {
 
     // The memory of an archive.
     pub fn into_memory(self) -> (Vec<Chapter>, Vec<Entry>)
-        ensures { (result.0 ≡ self.chapters) × (result.1 ≡ self.entries) }
+        ensures { (result.0 ≡ self.chapters.later) × (result.1 ≡ self.entries) }
     {
         let Archive {
             chapters,
             entries,
-            root: _,
-            link: _,
-            sealed: _,
-            runs: _,
+            ..
         } = self;
-        (chapters, entries)
+        (chapters.later, entries)
     }
 }

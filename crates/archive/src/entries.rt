@@ -9,28 +9,16 @@ use ledger::words::Step;
 use marks::table::Marks;
 
 impl Archive {
-    // The number of entries.
-    pub fn entry_count(&self) -> usize
-        ensures { result ≡ length (entries_of self.now) }
-    {
-        self.entries.len()
-    }
-
-    // The number of kept runs that the entries have.
-    pub fn run_count(&self) -> usize
-        ensures { result ≡ self.now.runs }
-    {
-        self.runs
-    }
-
     // The entries that are in no version, the oldest first.
+    #[tactic(auto, using(crate::proofs::Filing::open_part))]
     pub fn open_group(&self) -> &[Entry]
         ensures { reverse result.now ≡ open_entries self.now }
     {
-        &self.entries[self.sealed..self.entries.len()]
+        &self.entries[self.sealed..]
     }
 
     // Files a step with the marks before it, and the last `kept` runs as its own.
+    #[tactic(auto, using(crate::proofs::Filing::stored_last))]
     pub fn file(&mut self, step: Step, marks: Marks, kept: usize)
         requires room { vec_len self.old.entries < vec_capacity self.old.entries }
         requires fits { self.old.runs + kept < 2 ^ 64 }
@@ -49,6 +37,7 @@ impl Archive {
     }
 
     // Takes the newest entry of an open group back, with its runs.
+    #[tactic(auto, using(crate::proofs::Filing::without_newest))]
     pub fn unfile(&mut self) -> Entry
         requires some { 0 < length (open_entries self.old) }
         ensures entries { result ∷ entries_of self.new ≡ entries_of self.old }
@@ -62,18 +51,19 @@ impl Archive {
     }
 
     // Makes the entries that are in no version the next version, a child of `parent`.
+    #[tactic(auto, using(crate::proofs::Filing::filed_last))]
     pub fn seal(&mut self, parent: usize)
-        requires room { vec_len self.old.chapters < vec_capacity self.old.chapters }
+        requires room { vec_len self.old.chapters.later < vec_capacity self.old.chapters.later }
         ensures versions { volumes_of self.new ≡ volume parent None (open_entries self.old) ∷ volumes_of self.old }
         ensures group { open_entries self.new ≡ [] }
         ensures entries { self.new.entries ≡ self.old.entries }
         ensures runs { self.new.runs ≡ self.old.runs }
-        ensures root { (self.new.root ≡ self.old.root) × (self.new.link ≡ self.old.link) }
+        ensures root { self.new.chapters.root ≡ self.old.chapters.root }
         ensures links { links_of self.new ≡ 0 ∷ links_of self.old }
-        ensures capacity { vec_capacity self.new.chapters ≡ vec_capacity self.old.chapters }
+        ensures capacity { vec_capacity self.new.chapters.later ≡ vec_capacity self.old.chapters.later }
     {
         let made = self.entries.len();
-        self.chapters.push_reserved(Chapter {
+        self.chapters.later.push_reserved(Chapter {
             parent,
             favoured: None,
             first: self.sealed,

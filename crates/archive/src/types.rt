@@ -1,4 +1,4 @@
-// The records of a history.
+// The records of a history. They tell parts of one vector and hold none of their own: all memory is what the caller gave.
 use ledger::words::Step;
 use marks::table::Marks;
 
@@ -13,11 +13,13 @@ pub struct Entry {
 
 // A version: `count` entries, from `first` on, made out of its parent. The link is scratch: a child that a way through the
 // versions goes on to.
-#[derive(Clone, Copy)]
+#[derive(Clone, Copy, Debug, PartialEq, Eq)]
 pub struct Chapter {
     pub parent: usize,
     pub favoured: Option<usize>,
+    // no Range: that is not Copy, and to index by one that is kept is to clone it, which may fail
     pub first: usize,
     pub count: usize,
+    // no Option: a way writes each link before it reads it, so that no number has to stand for none
     pub link: usize,
 }

@@ -1,28 +1,22 @@
 // Versions by their numbers: parent, favoured child, entries and links.
-ghost use Rattle.std.specs.Prelude.{◌≡◌, ◌+◌, ◌<◌, ◌∷◌, ◌++◌, reverse, length, take, drop};
+// The numbers are plain, as in the lists that an archive stands for: of a newtype each clause would only take its number.
+// Each call asks that its version is made: a number that carried this could not say of which archive.
+#![tactic(auto, using(crate::proofs::Kept::chapters_found))]
+
+ghost use Rattle.std.specs.Prelude.{◌≡◌, ◌<◌, reverse, length};
 ghost use Rattle.archive.specs.Archives.{links_of, volumes_of, SameEntries};
 ghost use Rattle.archive.specs.Volumes.{entries_in, favoured_in, favouring_at, link_at, linking_at, parent_in, volume_at};
 
 use crate::Archive;
-use crate::types::{Chapter, Entry};
+use crate::types::Entry;
 
 impl Archive {
-    // The number of versions, version 0 included.
-    pub fn version_count(&self) -> usize
-        ensures { result ≡ length (volumes_of self.now) }
-    {
-        self.chapters.len() + 1
-    }
-
     // The parent of a version; 0 for version 0.
     pub fn parent(&self, version: usize) -> usize
         requires made { version < length (volumes_of self.now) }
         ensures { result ≡ parent_in (volume_at version (volumes_of self.now)) }
     {
-        if version == 0 {
-            return 0;
-        }
-        chapter_at(&self.chapters, version - 1).parent
+        self.chapters.get(version).parent
     }
 
     // The favoured child of a version, where it has one.
@@ -30,10 +24,7 @@ impl Archive {
         requires made { version < length (volumes_of self.now) }
         ensures { result ≡ favoured_in (volume_at version (volumes_of self.now)) }
     {
-        if version == 0 {
-            return self.root;
-        }
-        chapter_at(&self.chapters, version - 1).favoured
+        self.chapters.get(version).favoured
     }
 
     // The entries of a version, the oldest first.
@@ -41,29 +32,20 @@ impl Archive {
         requires made { version < length (volumes_of self.now) }
         ensures { reverse result.now ≡ entries_in (volume_at version (volumes_of self.now)) }
     {
-        if version == 0 {
-            return &self.entries[0..0];
-        }
-        let chapter = chapter_at(&self.chapters, version - 1);
-        let first = chapter.first;
-        let stop = first + chapter.count;
-        &self.entries[first..stop]
+        let chapter = self.chapters.get(version);
+        let stop = chapter.first + chapter.count;
+        &self.entries[chapter.first..stop]
     }
 
     // Makes a child the favoured one of a version.
+    #[tactic(auto, using(crate::proofs::Kept::chapters_favoured))]
     pub fn favour(&mut self, version: usize, child: usize)
         requires made { version < length (volumes_of self.old) }
         ensures versions { volumes_of self.new ≡ favouring_at version child (volumes_of self.old) }
         ensures links { links_of self.new ≡ links_of self.old }
         ensures same { SameEntries self.old self.new }
     {
-        if version == 0 {
-            self.root = Some(child);
-        } else {
-            let mut chapter = chapter_at(&self.chapters, version - 1);
-            chapter.favoured = Some(child);
-            self.chapters[version - 1] = chapter;
-        }
+        self.chapters.get_mut(version).favoured = Some(child);
     }
 
     // The link of a version.
@@ -71,33 +53,17 @@ impl Archive {
         requires made { version < length (volumes_of self.now) }
         ensures { result ≡ link_at version (links_of self.now) }
     {
-        if version == 0 {
-            return self.link;
-        }
-        chapter_at(&self.chapters, version - 1).link
+        self.chapters.get(version).link
     }
 
     // Links a version to another.
+    #[tactic(auto, using(crate::proofs::Kept::chapters_linked))]
     pub fn set_link(&mut self, version: usize, next: usize)
         requires made { version < length (volumes_of self.old) }
         ensures links { links_of self.new ≡ linking_at version next (links_of self.old) }
         ensures versions { volumes_of self.new ≡ volumes_of self.old }
         ensures same { SameEntries self.old self.new }
     {
-        if version == 0 {
-            self.link = next;
-        } else {
-            let mut chapter = chapter_at(&self.chapters, version - 1);
-            chapter.link = next;
-            self.chapters[version - 1] = chapter;
-        }
+        self.chapters.get_mut(version).link = next;
     }
-}
-
-// The chapter at an index.
-fn chapter_at(chapters: &[Chapter], index: usize) -> Chapter
-    requires within { index < length chapters.now }
-    ensures { chapters.now ≡ take index chapters.now ++ result ∷ drop (index + 1) chapters.now }
-{
-    chapters[index]
 }
