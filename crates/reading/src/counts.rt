@@ -1,33 +1,14 @@
-// Elements by their offsets, and numbers of pieces.
+// Numbers of pieces.
 ghost use Rattle.std.specs.Prelude.{◌≡◌, ◌+◌, ◌^◌, ◌<◌, ◌≤◌, [], ◌∷◌, ◌++◌, length, take, drop, ◌==◌};
 ghost use Rattle.ledger.specs.Places.{pieces_of, stretch};
 ghost use Rattle.nodes.specs.Trees.{items, long, Weighed};
-ghost use Rattle.pieces.specs.Sources.{elements_of, InsideOf};
 ghost use Rattle.pieces.specs.Spread.{places, Apart};
 
 use crate::ends::{Spot, first_behind, last_before, meet};
 use ledger::words::Place;
 use measure::Total;
 use nodes::{Tree, sums};
-use pieces::Sources;
 use seeking::find;
-
-// The element at an offset.
-pub fn element_at<E: Copy, T: Total>(
-    sources: Sources<'_, E>,
-    tree: &Tree<Place, T>,
-    offset: usize,
-) -> E
-    requires weighed { Weighed tree.now }
-    requires inside { InsideOf sources (items tree.now) }
-    requires fits { long tree.now < 2 ^ 64 }
-    requires within { offset < long tree.now }
-    ensures { drop offset (elements_of sources.entry tree.now) ≡ result ∷ drop (offset + 1) (elements_of sources.entry tree.now) }
-{
-    let found = find(tree, offset);
-    let part = sources.part(found.item.piece, found.item.length);
-    part[found.inner]
-}
 
 // The number of pieces of the first `offset` places.
 fn pieces_before<T: Total>(tree: &Tree<Place, T>, offset: usize) -> usize

@@ -1,0 +1,19 @@
+// What is read: a tree of pieces over its sources.
+ghost use Rattle.std.specs.Prelude.{◌^◌, ◌<◌, length};
+ghost use Rattle.nodes.specs.Trees.{items, long, Weighed};
+ghost use Rattle.pieces.proofs.Props.{inside_prop, weighed_prop};
+ghost use Rattle.pieces.specs.Sources.{InsideOf};
+
+use ledger::words::Place;
+use nodes::Tree;
+use pieces::Sources;
+
+// A tree of pieces, each of which lies in its source.
+#[derive(Drop)]
+pub struct Reader<'t, E, T> {
+    pub sources: Sources<'t, E>,
+    pub tree: &'t Tree<Place, T>,
+    ghost weighed: { Weighed tree.now } by { weighed_prop tree.now },
+    ghost inside: { InsideOf sources (items tree.now) } by { inside_prop (length sources.original.now) (length sources.added.now) (items tree.now) },
+    ghost fits: { long tree.now < 2 ^ 64 },
+}
