@@ -8,5 +8,4 @@ mod lines;
 mod reader;
 mod totals;
 
-pub use counts::{pieces_with, pieces_without, runs_in};
-pub use reader::Reader;
+pub use reader::{Counter, Reader};

@@ -1,4 +1,4 @@
-use Rattle.std.proofs.Common.{◌-◌, min, sym, refl, ap, ◌∙◌, arith, rules}
+use Rattle.std.proofs.Common.{◌-◌, min, sym, refl, ap, ◌∙◌, arith}
 use Rattle.measure.specs.Totals.{total}
 use Rattle.pieces.specs.Faithful.{elements, source_part}
 use Rattle.reading.specs.LineParts.{part}
