@@ -1,3 +1,4 @@
 pub mod Joints
 pub mod LineParts
+pub mod Readers
 pub mod Spots

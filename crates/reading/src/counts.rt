@@ -1,112 +1,76 @@
-// Elements by their offsets, and numbers of pieces.
-ghost use Rattle.std.specs.Prelude.{◌≡◌, ◌+◌, ◌^◌, ◌<◌, ◌≤◌, [], ◌∷◌, ◌++◌, length, take, drop, ◌==◌};
+// Numbers of pieces.
+ghost use Rattle.std.specs.Prelude.{◌≡◌, ◌+◌, ◌^◌, ◌<◌, ◌≤◌, ◌++◌, length, take, drop};
 ghost use Rattle.ledger.specs.Places.{pieces_of, stretch};
-ghost use Rattle.nodes.specs.Trees.{items, long, Weighed};
-ghost use Rattle.pieces.specs.Sources.{elements_of, InsideOf};
-ghost use Rattle.pieces.specs.Spread.{places, Apart};
+ghost use Rattle.nodes.specs.Trees.{long};
+ghost use Rattle.pieces.specs.Spread.{places};
 
-use crate::ends::{Spot, first_behind, last_before, meet};
+use crate::ends::{Spot, meet};
+use crate::reader::Counter;
 use ledger::words::Place;
 use measure::Total;
-use nodes::{Tree, sums};
-use pieces::Sources;
+use nodes::sums;
 use seeking::find;
 
-// The element at an offset.
-pub fn element_at<E: Copy, T: Total>(
-    sources: Sources<'_, E>,
-    tree: &Tree<Place, T>,
-    offset: usize,
-) -> E
-    requires weighed { Weighed tree.now }
-    requires inside { InsideOf sources (items tree.now) }
-    requires fits { long tree.now < 2 ^ 64 }
-    requires within { offset < long tree.now }
-    ensures { drop offset (elements_of sources.entry tree.now) ≡ result ∷ drop (offset + 1) (elements_of sources.entry tree.now) }
-{
-    let found = find(tree, offset);
-    let part = sources.part(found.item.piece, found.item.length);
-    part[found.inner]
-}
-
-// The number of pieces of the first `offset` places.
-fn pieces_before<T: Total>(tree: &Tree<Place, T>, offset: usize) -> usize
-    requires weighed { Weighed tree.now }
-    requires apart { Apart (items tree.now) }
-    requires fits { long tree.now < 2 ^ 64 }
-    requires within { offset ≤ long tree.now }
-    ensures { result ≡ length (pieces_of (take offset (places tree.now))) }
-{
-    if offset == 0 {
-        return 0;
+impl<'t, T: Total> Counter<'t, T> {
+    // The number of pieces of the first `offset` places.
+    fn pieces_before(&self, offset: usize) -> usize
+        requires within { offset ≤ long self.now.tree.now }
+        ensures { result ≡ length (pieces_of (take offset (places self.now.tree.now))) }
+    {
+        if offset == 0 {
+            return 0;
+        }
+        find(self.tree, offset - 1).before.pieces + 1
     }
-    find(tree, offset - 1).before.pieces + 1
-}
 
-// The number of pieces of the places behind the first `offset`.
-fn pieces_behind<T: Total>(tree: &Tree<Place, T>, offset: usize) -> usize
-    requires weighed { Weighed tree.now }
-    requires apart { Apart (items tree.now) }
-    requires fits { long tree.now < 2 ^ 64 }
-    requires within { offset ≤ long tree.now }
-    ensures { result ≡ length (pieces_of (drop offset (places tree.now))) }
-{
-    let all = sums(tree);
-    if offset == all.length {
-        return 0;
+    // The number of pieces of the places behind the first `offset`.
+    fn pieces_behind(&self, offset: usize) -> usize
+        requires within { offset ≤ long self.now.tree.now }
+        ensures { result ≡ length (pieces_of (drop offset (places self.now.tree.now))) }
+    {
+        let all = sums(self.tree);
+        if offset == all.length {
+            return 0;
+        }
+        all.pieces - find(self.tree, offset).before.pieces
     }
-    all.pieces - find(tree, offset).before.pieces
-}
 
-// The number of pieces of the `count` places behind the first `offset`.
-pub fn runs_in<T: Total>(tree: &Tree<Place, T>, offset: usize, count: usize) -> usize
-    requires weighed { Weighed tree.now }
-    requires apart { Apart (items tree.now) }
-    requires fits { long tree.now < 2 ^ 64 }
-    requires within { offset + count ≤ long tree.now }
-    ensures { result ≡ length (pieces_of (take count (drop offset (places tree.now)))) }
-{
-    if count == 0 {
-        return 0;
+    // The number of pieces of the `count` places behind the first `offset`.
+    pub fn runs_in(&self, offset: usize, count: usize) -> usize
+        requires within { offset + count ≤ long self.now.tree.now }
+        ensures { result ≡ length (pieces_of (take count (drop offset (places self.now.tree.now)))) }
+    {
+        if count == 0 {
+            return 0;
+        }
+        self.pieces_before(offset + count) - (sums(self.tree).pieces - self.pieces_behind(offset))
     }
-    pieces_before(tree, offset + count) - (sums(tree).pieces - pieces_behind(tree, offset))
-}
 
-// The number of pieces once a run, `count` places from a first one on, stands behind the first `offset`.
-pub fn pieces_with<T: Total>(
-    tree: &Tree<Place, T>,
-    offset: usize,
-    first: Place,
-    count: usize,
-) -> usize
-    requires weighed { Weighed tree.now }
-    requires apart { Apart (items tree.now) }
-    requires fits { long tree.now + 2 < 2 ^ 64 }
-    requires within { offset ≤ long tree.now }
-    requires some { 0 < count }
-    requires run_fits { first.index + count < 2 ^ 64 }
-    ensures { result ≡ length (pieces_of (take offset (places tree.now) ++ (stretch first.source first.index count ++ drop offset (places tree.now)))) }
-{
-    let begin = Spot { first, skip: 0 };
-    let end = Spot {
-        first,
-        skip: count - 1,
-    };
-    let front = usize::from(meet(last_before(tree, offset), Some(begin)));
-    let back = usize::from(meet(Some(end), first_behind(tree, offset)));
-    pieces_before(tree, offset) + 1 + pieces_behind(tree, offset) - front - back
-}
+    // The number of pieces once a run, `count` places from a first one on, stands behind the first `offset`.
+    pub fn pieces_with(&self, offset: usize, first: Place, count: usize) -> usize
+        requires fits { long self.now.tree.now + 2 < 2 ^ 64 }
+        requires within { offset ≤ long self.now.tree.now }
+        requires some { 0 < count }
+        ensures { result ≡ length (pieces_of (take offset (places self.now.tree.now) ++ (stretch first.source first.index count ++ drop offset (places self.now.tree.now)))) }
+    {
+        let begin = Spot { first, skip: 0 };
+        let end = Spot {
+            first,
+            skip: count - 1,
+        };
+        let front = usize::from(meet(self.last_before(offset), Some(begin)));
+        let back = usize::from(meet(Some(end), self.first_behind(offset)));
+        self.pieces_before(offset) + 1 + self.pieces_behind(offset) - front - back
+    }
 
-// The number of pieces once the `count` places behind the first `offset` are taken out.
-pub fn pieces_without<T: Total>(tree: &Tree<Place, T>, offset: usize, count: usize) -> usize
-    requires weighed { Weighed tree.now }
-    requires apart { Apart (items tree.now) }
-    requires fits { long tree.now < 2 ^ 64 }
-    requires within { offset + count ≤ long tree.now }
-    ensures { result ≡ length (pieces_of (take offset (places tree.now) ++ drop (offset + count) (places tree.now))) }
-{
-    let front = last_before(tree, offset);
-    let back = first_behind(tree, offset + count);
-    let joint = usize::from(meet(front, back));
-    pieces_before(tree, offset) + pieces_behind(tree, offset + count) - joint
+    // The number of pieces once the `count` places behind the first `offset` are taken out.
+    pub fn pieces_without(&self, offset: usize, count: usize) -> usize
+        requires within { offset + count ≤ long self.now.tree.now }
+        ensures { result ≡ length (pieces_of (take offset (places self.now.tree.now) ++ drop (offset + count) (places self.now.tree.now))) }
+    {
+        let front = self.last_before(offset);
+        let back = self.first_behind(offset + count);
+        let joint = usize::from(meet(front, back));
+        self.pieces_before(offset) + self.pieces_behind(offset + count) - joint
+    }
 }

@@ -1,20 +1,21 @@
 // The ends of parts of a text, and whether one part goes on to another.
-ghost use Rattle.std.specs.Prelude.{◌≡◌, ◌+◌, ◌-◌, ◌^◌, ◌<◌, ◌≤◌, take, drop, if◌then◌else◌};
-ghost use Rattle.nodes.specs.Trees.{long, Weighed};
+ghost use Rattle.std.specs.Prelude.{◌≡◌, ◌+◌, ◌-◌, ◌≤◌, take, drop, if◌then◌else◌};
+ghost use Rattle.nodes.specs.Trees.{long};
 ghost use Rattle.pieces.specs.Spread.{places};
 ghost use Rattle.reading.specs.Joints.{joint};
 ghost use Rattle.reading.specs.Spots.{spotted};
 
+use crate::reader::Counter;
 use ledger::words::Place;
 use measure::Total;
-use nodes::{Tree, sums};
+use nodes::sums;
 use seeking::find;
 
 // The place `skip` behind a first one.
 #[derive(Clone, Copy)]
-pub struct Spot {
-    pub first: Place,
-    pub skip: usize,
+pub(crate) struct Spot {
+    pub(crate) first: Place,
+    pub(crate) skip: usize,
 }
 
 impl Spot {
@@ -26,42 +27,40 @@ impl Spot {
     }
 }
 
-// The last of the first `offset` places.
-pub fn last_before<T: Total>(tree: &Tree<Place, T>, offset: usize) -> Option<Spot>
-    requires weighed { Weighed tree.now }
-    requires fits { long tree.now < 2 ^ 64 }
-    requires within { offset ≤ long tree.now }
-    ensures { spotted result ≡ drop (offset - 1) (take offset (places tree.now)) }
-{
-    if offset == 0 {
-        return None;
+impl<'t, T: Total> Counter<'t, T> {
+    // The last of the first `offset` places.
+    pub(crate) fn last_before(&self, offset: usize) -> Option<Spot>
+        requires within { offset ≤ long self.now.tree.now }
+        ensures { spotted result ≡ drop (offset - 1) (take offset (places self.now.tree.now)) }
+    {
+        if offset == 0 {
+            return None;
+        }
+        let found = find(self.tree, offset - 1);
+        Some(Spot {
+            first: found.item.piece,
+            skip: found.inner,
+        })
     }
-    let found = find(tree, offset - 1);
-    Some(Spot {
-        first: found.item.piece,
-        skip: found.inner,
-    })
-}
 
-// The first of the places behind the first `offset`.
-pub fn first_behind<T: Total>(tree: &Tree<Place, T>, offset: usize) -> Option<Spot>
-    requires weighed { Weighed tree.now }
-    requires fits { long tree.now < 2 ^ 64 }
-    requires within { offset ≤ long tree.now }
-    ensures { spotted result ≡ take 1 (drop offset (places tree.now)) }
-{
-    if offset == sums(tree).length {
-        return None;
+    // The first of the places behind the first `offset`.
+    pub(crate) fn first_behind(&self, offset: usize) -> Option<Spot>
+        requires within { offset ≤ long self.now.tree.now }
+        ensures { spotted result ≡ take 1 (drop offset (places self.now.tree.now)) }
+    {
+        if offset == sums(self.tree).length {
+            return None;
+        }
+        let found = find(self.tree, offset);
+        Some(Spot {
+            first: found.item.piece,
+            skip: found.inner,
+        })
     }
-    let found = find(tree, offset);
-    Some(Spot {
-        first: found.item.piece,
-        skip: found.inner,
-    })
 }
 
 // Whether there are two places, and the first goes on to the second.
-pub fn meet(before: Option<Spot>, after: Option<Spot>) -> bool
+pub(crate) fn meet(before: Option<Spot>, after: Option<Spot>) -> bool
     ensures { (if result then 1 else 0) ≡ joint (spotted before) (spotted after) }
 {
     match (before, after) {

@@ -2,10 +2,10 @@
 #![tactic(auto)]
 
 mod counts;
+mod elements;
 mod ends;
 mod lines;
+mod reader;
 mod totals;
 
-pub use counts::{element_at, pieces_with, pieces_without, runs_in};
-pub use lines::{line, line_count, line_of};
-pub use totals::part_total;
+pub use reader::{Counter, Reader};

@@ -1,41 +1,37 @@
-use Rattle.std.proofs.Common.{◌-◌, min, sym, refl, ap, ◌∙◌, arith, rules}
+use Rattle.std.proofs.Common.{◌-◌, min, sym, refl, ap, ◌∙◌, arith}
 use Rattle.measure.specs.Totals.{total}
 use Rattle.pieces.specs.Faithful.{elements, source_part}
 use Rattle.reading.specs.LineParts.{part}
 use Rattle.reading.proofs.PartTotals.{part_all, elements_long, opens, whole_total, faithful_left, faithful_item, faithful_right, joined_total}
-use Rattle.reading.proofs.totals.+part_total.Goals as goal
+use Rattle.reading.proofs.reader.Reader.+part_total.Goals as goal
 
 pub returns-then-upto-node : goal.returns-then-upto-node
 returns-then-upto-node g t c faithful =
-    let original = c.args.sources.original.now in
-    let added = c.args.sources.added.now in
-    let tree = c.args.tree.now in
-    let o = opens c.in-Place.is c.deref-node.ensures c.requires.weighed c.requires.inside in
-    let long = elements_long original added tree c.requires.weighed c.requires.inside in
+    let original = c.args.self.now.sources.original.now in
+    let added = c.args.self.now.sources.added.now in
+    let tree = c.args.self.now.tree.now in
+    let o = opens c.in-Place.is c.deref-node.ensures c.args.self.now.weighed c.args.self.now.inside in
+    let long = elements_long original added tree c.args.self.now.weighed c.args.self.now.inside in
     let all = part_all c.args.from c.args.upto (elements original added tree) c.if-from-eq0.true (omega (arith, long, o.length_is, c.if-upto-node.true)) in
     sym (o.total_is g.T.Total.neutral)
     ∙ whole_total g.E.Element.breaks g.T.Total.neutral g.T.Measure.value g.T.Total.joined g.met.T.Total.monoid original added tree faithful
     ∙ ap (total g.T.Total.neutral g.T.Measure.value g.T.Total.joined) (sym all)
 
-pub part_total-front-requires : goal.part_total-front-requires
-part_total-front-requires g t c κs within =
-    let o = opens c.in-Place.is c.deref-node.ensures c.requires.weighed c.requires.inside in
-    let weighed = o.left_weighed in
-    let inside = o.left_inside in
-    let long = o.long_are in
-    search rules
+pub invariant_of-left_side : goal.invariant_of-left_side
+invariant_of-left_side g t c =
+    let r = c.args.self.now in
+    let o = opens c.in-Place.is c.deref-node.ensures r.weighed r.inside in
+    record { weighed = o.left_weighed; inside = o.left_inside; fits = omega (arith, o.long_are, r.fits) }
 
 pub item_total-inner-requires-clause-inside : goal.item_total-inner-requires-clause-inside
 item_total-inner-requires-clause-inside g t c =
-    (opens c.in-Place.is c.deref-node.ensures c.requires.weighed c.requires.inside).item_inside
+    (opens c.in-Place.is c.deref-node.ensures c.args.self.now.weighed c.args.self.now.inside).item_inside
 
-pub part_total-back-requires : goal.part_total-back-requires
-part_total-back-requires g t c κs within =
-    let o = opens c.in-Place.is c.deref-node.ensures c.requires.weighed c.requires.inside in
-    let weighed = o.right_weighed in
-    let inside = o.right_inside in
-    let long = o.long_are in
-    search rules
+pub invariant_of-right_side : goal.invariant_of-right_side
+invariant_of-right_side g t c =
+    let r = c.args.self.now in
+    let o = opens c.in-Place.is c.deref-node.ensures r.weighed r.inside in
+    record { weighed = o.right_weighed; inside = o.right_inside; fits = omega (arith, o.long_are, r.fits) }
 
 pub returns-else-from-eq0 : goal.returns-else-from-eq0
 returns-else-from-eq0 g t c faithful =
@@ -44,11 +40,11 @@ returns-else-from-eq0 g t c faithful =
     let v = g.T.Measure.value in
     let j = g.T.Total.joined in
     let laws = g.met.T.Total.monoid in
-    let original = c.args.sources.original.now in
-    let added = c.args.sources.added.now in
+    let original = c.args.self.now.sources.original.now in
+    let added = c.args.self.now.sources.added.now in
     let node = c.deref-node.result.now in
     let count = node.item.length in
-    let o = opens c.in-Place.is c.deref-node.ensures c.requires.weighed c.requires.inside in
+    let o = opens c.in-Place.is c.deref-node.ensures c.args.self.now.weighed c.args.self.now.inside in
     let begin = c.saturating_sub-begin.ensures in
     let end = c.saturating_sub-end.ensures in
     let from_Inner = c.min-in-Place-2.ensures ∙ ap (λ k. min k count) begin in
