@@ -1,1 +1,2 @@
+pub mod OneProof
 pub mod Trees

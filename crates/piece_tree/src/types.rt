@@ -1,7 +1,7 @@
 // A piece tree with what always stands of it, and what a split makes of one.
 ghost use Rattle.std.specs.Prelude.{◌≡◌, ◌^◌, ◌<◌};
 ghost use Rattle.nodes.specs.Trees.{long, blacks, Balanced, Weighed};
-ghost use Rattle.piece_tree.specs.OneProof.{balanced_prop, weighed_prop};
+ghost use Rattle.nodes.specs.OneProof.{balanced_prop, weighed_prop};
 
 use nodes::{Node, Tree};
 

@@ -8,7 +8,7 @@ use Rattle.ledger.specs.declared.words.Place.{Place}
 use Rattle.nodes.specs.declared.types.Item.{Item}
 use Rattle.nodes.specs.declared.types.Tree.{Tree}
 use Rattle.nodes.specs.Trees.{items}
-use Rattle.piece_tree.specs.OneProof.{balanced_prop, weighed_prop}
+use Rattle.nodes.specs.OneProof.{balanced_prop, weighed_prop}
 use Rattle.pieces.specs.Spread.{touches, Apart, Inside, Standing, StartsApart}
 
 module _ {T : Type 0} where

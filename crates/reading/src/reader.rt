@@ -1,7 +1,8 @@
 // What is read: a tree of pieces, with its sources or without them.
 ghost use Rattle.std.specs.Prelude.{◌^◌, ◌<◌, length};
 ghost use Rattle.nodes.specs.Trees.{items, long, Weighed};
-ghost use Rattle.pieces.proofs.Props.{apart_prop, inside_prop, weighed_prop};
+ghost use Rattle.nodes.specs.OneProof.{weighed_prop};
+ghost use Rattle.pieces.proofs.Props.{apart_prop, inside_prop};
 ghost use Rattle.pieces.specs.Sources.{InsideOf};
 ghost use Rattle.pieces.specs.Spread.{Apart};
 

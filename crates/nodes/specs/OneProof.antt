@@ -1,4 +1,4 @@
--- What a piece tree says of its places has one proof at most. Assumes nothing.
+-- What a tree carries and how it is balanced has one proof at most. Assumes nothing.
 use Rattle.std.proofs.Common.{◌+◌, false}
 use mathlib.Core.Bool.{Bool-set}
 use mathlib.Core.HLevel.{Unit-prop}
