@@ -14,23 +14,23 @@ use Rattle.text.specs.Texts.{text_places, original_of, added_of, written}
 
 module _ {E T : Type 0} {e : Elements E} {m : Measures T E} {total : Totals T} (t : Text E T e m total) where
   -- the pieces lie inside a list that is the added source
-  pub inside_of : (added : List E) → added ≡ added_of t → Inside (length (original_of t)) (length added) (items t.tree)
-  inside_of added is = subst (λ more. Inside (length (original_of t)) (length more) (items t.tree)) (sym is) t.standing.inside
+  pub inside_of : (added : List E) → added ≡ added_of t → Inside (length (original_of t)) (length added) (items t.tree.tree)
+  inside_of added is = subst (λ more. Inside (length (original_of t)) (length more) (items t.tree.tree)) (sym is) t.standing.inside
 
   -- the carried length is that of the places, and of the elements
-  pub places_long : length (text_places t) ≡ long t.tree
-  places_long = long_places t.tree t.standing.weighed
+  pub places_long : length (text_places t) ≡ long t.tree.tree
+  places_long = long_places t.tree.tree t.standing.weighed
 
-  pub written_long : length (written t) ≡ long t.tree
-  written_long = elements_long (original_of t) (added_of t) t.tree t.standing.weighed t.standing.inside
+  pub written_long : length (written t) ≡ long t.tree.tree
+  written_long = elements_long (original_of t) (added_of t) t.tree.tree t.standing.weighed t.standing.inside
 
   -- the carried number is that of the pieces, and of the tree places
-  pub pieces_placed : placed t.tree ≡ length (pieces_of (text_places t))
-  pieces_placed = placed_pieces t.tree t.standing.weighed t.standing.apart
+  pub pieces_placed : placed t.tree.tree ≡ length (pieces_of (text_places t))
+  pieces_placed = placed_pieces t.tree.tree t.standing.weighed t.standing.apart
 
-  pub items_placed : placed t.tree ≡ length (items t.tree)
-  items_placed = placed_is t.tree t.standing.weighed
+  pub items_placed : placed t.tree.tree ≡ length (items t.tree.tree)
+  items_placed = placed_is t.tree.tree t.standing.weighed
 
   -- two more than the length is still a machine number
-  pub long_fits : long t.tree + 2 < 2 ^ 64
-  long_fits = let short : long t.tree ≤ 2 ^ 24 = t.short in omega (arith, short)
+  pub long_fits : long t.tree.tree + 2 < 2 ^ 64
+  long_fits = let short : long t.tree.tree ≤ 2 ^ 24 = t.short in omega (arith, short)

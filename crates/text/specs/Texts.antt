@@ -13,7 +13,7 @@ use Rattle.text.specs.declared.Text.{Text}
 module _ {E T : Type 0} {e : Elements E} {m : Measures T E} {t : Totals T} where
   -- the places of a text
   abbrev pub text_places : Text E T e m t → List Place
-  text_places text = places text.tree
+  text_places text = places text.tree.tree
 
   abbrev pub original_of : Text E T e m t → List E
   original_of text = text.original.now
@@ -27,7 +27,7 @@ module _ {E T : Type 0} {e : Elements E} {m : Measures T E} {t : Totals T} where
 
   -- tree places, in use and in stock
   abbrev pub places_owned : Text E T e m t → ℕ
-  places_owned text = vec_len text.stock + length (items text.tree)
+  places_owned text = vec_len text.stock + length (items text.tree.tree)
 
   -- all but the places of the text, and how its tree is arranged, is the same
   pub record Kept (before after : Text E T e m t) : Type 0 where

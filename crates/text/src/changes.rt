@@ -9,7 +9,9 @@ use crate::Text;
 use element::Element;
 use ledger::words::{Piece, Place, Source};
 use measure::{Measure, Total};
-use nodes::{Tree, recycle};
+use nodes::recycle;
+use piece_tree::PieceTree;
+use pieces::Sources;
 use splicing::{insert_run, keep_runs, put_back, take_out};
 
 impl<'o, E: Element, T: Measure<E>> Text<'o, E, T> {
@@ -27,16 +29,12 @@ impl<'o, E: Element, T: Measure<E>> Text<'o, E, T> {
             source: Source::Added,
             index: start,
         };
-        let tree = std::mem::replace(&mut self.tree, Tree::Empty);
-        self.tree = insert_run(
-            self.original,
-            &self.added,
-            tree,
-            offset,
-            first,
-            count,
-            &mut self.stock,
-        );
+        let sources = Sources {
+            original: self.original,
+            added: &self.added,
+        };
+        let tree = std::mem::replace(&mut self.tree, PieceTree::empty());
+        self.tree = insert_run(sources, tree, offset, first, count, &mut self.stock);
     }
 
     // Removes the `count` elements behind the first `offset`.
@@ -47,16 +45,13 @@ impl<'o, E: Element, T: Measure<E>> Text<'o, E, T> {
         ensures places { text_places self.new ≡ take offset (text_places self.old) ++ drop (offset + count) (text_places self.old) }
         ensures kept { Kept self.old self.new }
     {
-        let tree = std::mem::replace(&mut self.tree, Tree::Empty);
-        let (rest, part) = take_out(
-            self.original,
-            &self.added,
-            tree,
-            offset,
-            count,
-            &mut self.stock,
-        );
-        recycle(part, &mut self.stock);
+        let sources = Sources {
+            original: self.original,
+            added: &self.added,
+        };
+        let tree = std::mem::replace(&mut self.tree, PieceTree::empty());
+        let (rest, part) = take_out(sources, tree, offset, count, &mut self.stock);
+        recycle(part.tree, &mut self.stock);
         self.tree = rest;
     }
 
@@ -72,16 +67,13 @@ impl<'o, E: Element, T: Measure<E>> Text<'o, E, T> {
         ensures capacity { vec_capacity runs.new ≡ vec_capacity runs.old }
         ensures kept { Kept self.old self.new }
     {
-        let tree = std::mem::replace(&mut self.tree, Tree::Empty);
-        let (rest, part) = take_out(
-            self.original,
-            &self.added,
-            tree,
-            offset,
-            count,
-            &mut self.stock,
-        );
-        keep_runs(part, &mut self.stock, runs);
+        let sources = Sources {
+            original: self.original,
+            added: &self.added,
+        };
+        let tree = std::mem::replace(&mut self.tree, PieceTree::empty());
+        let (rest, part) = take_out(sources, tree, offset, count, &mut self.stock);
+        keep_runs(part.tree, &mut self.stock, runs);
         self.tree = rest;
     }
 
@@ -96,14 +88,11 @@ impl<'o, E: Element, T: Measure<E>> Text<'o, E, T> {
         ensures places { text_places self.new ≡ take offset (text_places self.old) ++ (spelled runs.now ++ drop offset (text_places self.old)) }
         ensures kept { Kept self.old self.new }
     {
-        let tree = std::mem::replace(&mut self.tree, Tree::Empty);
-        self.tree = put_back(
-            self.original,
-            &self.added,
-            tree,
-            offset,
-            runs,
-            &mut self.stock,
-        );
+        let sources = Sources {
+            original: self.original,
+            added: &self.added,
+        };
+        let tree = std::mem::replace(&mut self.tree, PieceTree::empty());
+        self.tree = put_back(sources, tree, offset, runs, &mut self.stock);
     }
 }

@@ -16,7 +16,8 @@ mod sources;
 use element::Element;
 use ledger::words::Place;
 use measure::Measure;
-use nodes::{Node, Tree};
+use nodes::Node;
+use piece_tree::PieceTree;
 
 // The read-only original, the added source, which grows at its end, and the pieces of both that the text is made of, in a
 // red-black tree. Each piece is a longest stretch. There are at most `limit` pieces, and eight tree places more than that,
@@ -25,13 +26,13 @@ use nodes::{Node, Tree};
 pub struct Text<'o, E: Element, T: Measure<E>> {
     original: &'o [E],
     added: Vec<E>,
-    tree: Tree<Place, T>,
+    tree: PieceTree<Place, T>,
     stock: Vec<Box<Node<Place, T>>>,
     limit: usize,
-    ghost standing: { Standing (length original.now) (length added.items) tree } by { standing_prop (length original.now) (length added.items) tree },
-    ghost measured: { Faithful E.breaks T.neutral T.value T.joined original.now added.items tree } by { faithful_prop T.code E.breaks T.neutral T.value T.joined original.now added.items tree },
-    ghost short: { long tree ≤ 2 ^ 24 },
-    ghost few: { length (items tree) ≤ limit },
-    ghost ample: { 0 < limit → limit + 8 ≤ vec_len stock + length (items tree) },
-    ghost room: { vec_len stock + length (items tree) ≤ vec_capacity stock },
+    ghost standing: { Standing (length original.now) (length added.items) tree.tree } by { standing_prop (length original.now) (length added.items) tree.tree },
+    ghost measured: { Faithful E.breaks T.neutral T.value T.joined original.now added.items tree.tree } by { faithful_prop T.code E.breaks T.neutral T.value T.joined original.now added.items tree.tree },
+    ghost short: { long tree.tree ≤ 2 ^ 24 },
+    ghost few: { length (items tree.tree) ≤ limit },
+    ghost ample: { 0 < limit → limit + 8 ≤ vec_len stock + length (items tree.tree) },
+    ghost room: { vec_len stock + length (items tree.tree) ≤ vec_capacity stock },
 }

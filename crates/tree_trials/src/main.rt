@@ -3,11 +3,11 @@
 #![tactic(auto)]
 
 ghost use Rattle.std.specs.Prelude.{◌≡◌, ◌+◌, ◌^◌, ◌<◌, ◌≤◌};
-ghost use Rattle.nodes.specs.Trees.{long, Balanced, Fair, Weighed};
+ghost use Rattle.nodes.specs.Trees.{long, Fair};
 
 use measure::{Fingerprint, Total, fold};
 use nodes::{Item, Node, Sums, Tree, draw, fill, recycle, sums};
-use piece_tree::{concat, join, split};
+use piece_tree::PieceTree;
 use seeking::{depth, find, find_break, summary};
 use std::io;
 
@@ -22,7 +22,9 @@ const SEEKS: usize = 1_000;
 // Keeps lengths far below what a usize holds.
 const LONGEST: usize = 1 << 40;
 
-type Pieces = Tree<usize, Fingerprint>;
+type Places = Tree<usize, Fingerprint>;
+
+type Pieces = PieceTree<usize, Fingerprint>;
 
 type Stock = Vec<Box<Node<usize, Fingerprint>>>;
 
@@ -62,11 +64,9 @@ fn item(number: usize) -> Item<usize, Fingerprint>
 
 // All pieces in the order of their numbers.
 fn build(stock: &mut Stock) -> Pieces
-    ensures weighed { Weighed result }
-    ensures balanced { Balanced result }
-    ensures short { long result ≤ 2 ^ 40 + 7 }
+    ensures short { long result.tree ≤ 2 ^ 40 + 7 }
 {
-    let mut tree = Tree::Empty;
+    let mut tree = Pieces::empty();
     for number in 0..PIECES {
         tree = append(tree, stock, number);
     }
@@ -75,18 +75,14 @@ fn build(stock: &mut Stock) -> Pieces
 
 // One more piece at the end, where the stock has a place for it.
 fn append(tree: Pieces, stock: &mut Stock, number: usize) -> Pieces
-    requires weighed { Weighed tree }
-    requires balanced { Balanced tree }
-    requires short { long tree ≤ 2 ^ 40 + 7 }
-    ensures weighed { Weighed result }
-    ensures balanced { Balanced result }
-    ensures short { long result ≤ 2 ^ 40 + 7 }
+    requires short { long tree.tree ≤ 2 ^ 40 + 7 }
+    ensures short { long result.tree ≤ 2 ^ 40 + 7 }
 {
-    if stock.is_empty() || sums(&tree).length > LONGEST {
+    if stock.is_empty() || tree.len() > LONGEST {
         return tree;
     }
     let place = draw(stock, item(number));
-    join(tree, place, Tree::Empty)
+    tree.push_back(place)
 }
 
 // Where the piece at a cut goes, when what lies after it is put before what lies in front of it.
@@ -105,19 +101,15 @@ struct Turned {
 
 // Cuts a tree at the piece that holds the offset, and turns its parts.
 fn turn_tree(turn: Turn, tree: Pieces, offset: usize) -> Turned
-    requires weighed { Weighed tree }
-    requires balanced { Balanced tree }
-    requires within { offset < long tree }
-    requires short { long tree ≤ 2 ^ 40 + 7 }
-    ensures weighed { Weighed result.tree }
-    ensures balanced { Balanced result.tree }
-    ensures same { long result.tree ≡ long tree }
+    requires within { offset < long tree.tree }
+    requires short { long tree.tree ≤ 2 ^ 40 + 7 }
+    ensures same { long result.tree.tree ≡ long tree.tree }
 {
-    let part = split(tree, offset);
-    let before = sums(&part.left).pieces;
+    let part = tree.split(offset);
+    let before = sums(&part.left.tree).pieces;
     let tree = match turn {
-        Turn::PieceLast => concat(part.right, join(part.left, part.place, Tree::Empty)),
-        Turn::PieceBetween => join(part.right, part.place, part.left),
+        Turn::PieceLast => part.right.concat(part.left.push_back(part.place)),
+        Turn::PieceBetween => part.right.join(part.place, part.left),
     };
     Turned { tree, before }
 }
@@ -142,15 +134,11 @@ struct Trial {
 
 // One turn at a random offset, of both.
 fn step(trial: Trial, random: &mut Random) -> Trial
-    requires weighed { Weighed trial.tree }
-    requires balanced { Balanced trial.tree }
-    requires short { long trial.tree ≤ 2 ^ 40 + 7 }
-    ensures weighed { Weighed result.tree }
-    ensures balanced { Balanced result.tree }
-    ensures short { long result.tree ≤ 2 ^ 40 + 7 }
+    requires short { long trial.tree.tree ≤ 2 ^ 40 + 7 }
+    ensures short { long result.tree.tree ≤ 2 ^ 40 + 7 }
 {
     let Trial { tree, mut numbers } = trial;
-    let length = sums(&tree).length;
+    let length = tree.len();
     if length == 0 {
         return Trial { tree, numbers };
     }
@@ -170,12 +158,8 @@ fn step(trial: Trial, random: &mut Random) -> Trial
 
 // Many turns.
 fn turns(trial: Trial, random: &mut Random) -> Trial
-    requires weighed { Weighed trial.tree }
-    requires balanced { Balanced trial.tree }
-    requires short { long trial.tree ≤ 2 ^ 40 + 7 }
-    ensures weighed { Weighed result.tree }
-    ensures balanced { Balanced result.tree }
-    ensures short { long result.tree ≤ 2 ^ 40 + 7 }
+    requires short { long trial.tree.tree ≤ 2 ^ 40 + 7 }
+    ensures short { long result.tree.tree ≤ 2 ^ 40 + 7 }
 {
     let mut trial = trial;
     for _round in 0..ROUNDS {
@@ -185,7 +169,7 @@ fn turns(trial: Trial, random: &mut Random) -> Trial
 }
 
 // Whether the pieces of a tree are those of the list, in its order.
-fn agrees(tree: &Pieces, numbers: &[usize]) -> bool {
+fn agrees(tree: &Places, numbers: &[usize]) -> bool {
     let Tree::Place(place) = tree else {
         return numbers.is_empty();
     };
@@ -211,7 +195,7 @@ fn sums_agree(tree: &Pieces, numbers: &[usize]) -> bool {
                 total: all.total.join(one.total),
             }
         });
-    sums(tree) == plain
+    sums(&tree.tree) == plain
 }
 
 // Where the list has the element of this offset, or the break of this number, by what is counted of a piece: how many pieces
@@ -236,30 +220,23 @@ fn find_plainly<F: Fn(Item<usize, Fingerprint>) -> usize>(
 
 // Whether a random offset, and the break of a random number, are found where the list has them.
 fn found(tree: &Pieces, numbers: &[usize], random: &mut Random) -> bool
-    requires weighed { Weighed tree.now }
-    requires fits { long tree.now < 2 ^ 64 }
 {
-    let all = sums(tree);
+    let all = sums(&tree.tree);
     if all.length == 0 || all.breaks == 0 {
         return false;
     }
     let offset = random.below(all.length);
-    let at = find(tree, offset);
+    let at = find(&tree.tree, offset);
     let number = random.below(all.breaks);
-    let broken = find_break(tree, number);
+    let broken = find_break(&tree.tree, number);
     find_plainly(numbers, offset, |item| item.length) == (at.before.pieces, at.inner)
         && find_plainly(numbers, number, |item| item.breaks) == (broken.before.pieces, broken.inner)
 }
 
 // How many of a thousand random offsets and breaks are found.
 fn founds(tree: &Pieces, numbers: &[usize], random: &mut Random) -> usize
-    requires weighed { Weighed tree.now }
-    requires fits { long tree.now < 2 ^ 64 }
 {
-    let finds = |_seek: &usize| -> bool
-        requires weighed { Weighed tree.now }
-        requires fits { long tree.now < 2 ^ 64 }
-    { found(tree, numbers, random) };
+    let finds = |_seek: &usize| found(tree, numbers, random);
     (0..SEEKS).filter(finds).count()
 }
 
@@ -276,21 +253,22 @@ fn main(rt: HostRuntime) -> io::Result<()> {
     let tree = build(&mut stock);
     let numbers = (0..PIECES).collect(alloc)?;
     let trial = turns(Trial { tree, numbers }, &mut random);
-    let all = summary(&trial.tree);
+    let all = summary(&trial.tree.tree);
     let pieces = all.pieces;
     println!(rt;
         "{pieces} pieces, {} elements, {} breaks",
         all.length, all.breaks
     )?;
-    println!(rt; "order agrees: {}", agrees(&trial.tree, &trial.numbers))?;
+    println!(rt; "order agrees: {}", agrees(&trial.tree.tree, &trial.numbers))?;
     println!(rt; "sums agree: {}", sums_agree(&trial.tree, &trial.numbers))?;
-    let deep = depth(&trial.tree);
+    let deep = depth(&trial.tree.tree);
     println!(rt; "depth {deep}, within the bound: {}", bounded(deep, pieces))?;
     let count = founds(&trial.tree, &trial.numbers, &mut random);
     println!(rt; "{count} of {SEEKS} offsets and breaks found")?;
     let left = stock.len();
+    let places = trial.tree.tree;
     if pieces <= stock.capacity() - left {
-        recycle(trial.tree, &mut stock);
+        recycle(places, &mut stock);
     }
     println!(rt;
         "{left} places left, {} after all were given back",

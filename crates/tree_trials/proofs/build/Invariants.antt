@@ -1,6 +1,6 @@
 use Rattle.std.proofs.Common.{◌+◌, ◌^◌, ◌≤◌}
-use Rattle.nodes.specs.Trees.{long, Balanced, Weighed}
+use Rattle.nodes.specs.Trees.{long}
 use Rattle.tree_trials.proofs.build.Given as goal
 
 abbrev pub invariant-loop-number : goal.invariant-loop-number
-invariant-loop-number l = Weighed l.tree × Balanced l.tree × (long l.tree ≤ 2 ^ 40 + 7)
+invariant-loop-number l = long l.tree.tree ≤ 2 ^ 40 + 7

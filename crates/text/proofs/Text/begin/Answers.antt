@@ -8,7 +8,7 @@ use Rattle.text.proofs.Text.begin.Goals as goal
 pub invariant_of-result : goal.invariant_of-result
 invariant_of-result g c =
     let original = c.args.original.now in
-    let tree = c.whole_tree-tree.result in
+    let tree = c.whole_tree-tree.result.tree in
     let made = c.whole_tree-tree.ensures in
     let stands = subst (λ added. Standing (length original) (length added) tree) c.deref.ensures.value made.standing in
     let few = one_at_most (length original) (length (items tree)) c.args.limit made.few.0 made.few.1 c.requires.one in

@@ -5,7 +5,7 @@ use Rattle.text.proofs.Text.len.Goals as goal
 pub returns : goal.returns
 returns g c =
     let t = c.args.self.now in
-    let all = c.sums.ensures.length in
+    let all = c.len.ensures in
     record {
       places = all ∙ sym (places_long t);
       written = all ∙ sym (written_long t);

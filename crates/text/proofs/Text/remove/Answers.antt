@@ -11,14 +11,13 @@ pub take_out-rest-requires : goal.take_out-rest-requires
 take_out-rest-requires g c =
     let t = c.args.self.now in
     let s = t.standing in
-    let tree_is = c.replace-tree.ensures.value in
-    let long_is : long c.replace-tree.result ≡ length (text_places t) = ap long tree_is ∙ sym (long_places t.tree s.weighed) in
+    let tree_is = ap (λ u. u.tree) c.replace-tree.ensures.value in
+    let long_is : long c.replace-tree.result.tree ≡ length (text_places t) = ap long tree_is ∙ sym (long_places t.tree.tree s.weighed) in
     let pieces = some_pieces (text_places t) (omega (arith, c.requires.some, c.requires.within)) in
-    let ample = t.ample (omega (arith, pieces, count_of t.tree s, t.few)) in
+    let ample = t.ample (omega (arith, pieces, count_of t.tree.tree s, t.few)) in
     record {
       standing = carried c.deref.ensures.value tree_is t.standing;
       within = omega (arith, long_is, c.requires.within);
-      fits = omega (arith, ap long tree_is, t.short);
       spare = omega (arith, ample, t.few);
       room = omega (arith, ap (λ u. length (items u)) tree_is, t.room);
     }
@@ -27,9 +26,9 @@ pub invariant_of-self : goal.invariant_of-self
 invariant_of-self g c =
     let t = c.args.self.now in
     let e = c.take_out-rest.ensures in
-    let tree_is = c.replace-tree.ensures.value in
+    let tree_is = ap (λ u. u.tree) c.replace-tree.ensures.value in
     let x = c.args.offset in
-    let rest = c.take_out-rest.result.0 in
+    let rest = c.take_out-rest.result.0.tree in
     let s : Standing (length t.original.now) (length (vec_items t.added)) rest =
     subst (λ xs. Standing (length t.original.now) (length xs) rest) c.deref.ensures.value e.standing.0 in
     let after : places rest ≡ take x (text_places t) ++ drop (x + c.args.count) (text_places t) =

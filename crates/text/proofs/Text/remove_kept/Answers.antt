@@ -12,14 +12,13 @@ pub take_out-rest-requires : goal.take_out-rest-requires
 take_out-rest-requires g c =
     let t = c.args.self.now in
     let s = t.standing in
-    let tree_is = c.replace-tree.ensures.value in
-    let long_is : long c.replace-tree.result ≡ length (text_places t) = ap long tree_is ∙ sym (long_places t.tree s.weighed) in
+    let tree_is = ap (λ u. u.tree) c.replace-tree.ensures.value in
+    let long_is : long c.replace-tree.result.tree ≡ length (text_places t) = ap long tree_is ∙ sym (long_places t.tree.tree s.weighed) in
     let pieces = some_pieces (text_places t) (omega (arith, c.requires.some, c.requires.within)) in
-    let ample = t.ample (omega (arith, pieces, count_of t.tree s, t.few)) in
+    let ample = t.ample (omega (arith, pieces, count_of t.tree.tree s, t.few)) in
     record {
       standing = carried c.deref.ensures.value tree_is t.standing;
       within = omega (arith, long_is, c.requires.within);
-      fits = omega (arith, ap long tree_is, t.short);
       spare = omega (arith, ample, t.few);
       room = omega (arith, ap (λ u. length (items u)) tree_is, t.room);
     }
@@ -28,8 +27,8 @@ pub keep_runs-requires : goal.keep_runs-requires
 keep_runs-requires g c =
     let t = c.args.self.now in
     let e = c.take_out-rest.ensures in
-    let tree_is = c.replace-tree.ensures.value in
-    let part = c.take_out-rest.result.1 in
+    let tree_is = ap (λ u. u.tree) c.replace-tree.ensures.value in
+    let part = c.take_out-rest.result.1.tree in
     let count = count_of part e.standing.1 in
     let spelled : places part ≡ take c.args.count (drop c.args.offset (text_places t)) =
     e.part ∙ ap (λ u. take c.args.count (drop c.args.offset (places u))) tree_is in
@@ -42,9 +41,9 @@ pub invariant_of-self : goal.invariant_of-self
 invariant_of-self g c =
     let t = c.args.self.now in
     let e = c.take_out-rest.ensures in
-    let tree_is = c.replace-tree.ensures.value in
+    let tree_is = ap (λ u. u.tree) c.replace-tree.ensures.value in
     let x = c.args.offset in
-    let rest = c.take_out-rest.result.0 in
+    let rest = c.take_out-rest.result.0.tree in
     let s : Standing (length t.original.now) (length (vec_items t.added)) rest =
     subst (λ xs. Standing (length t.original.now) (length xs) rest) c.deref.ensures.value e.standing.0 in
     let after : places rest ≡ take x (text_places t) ++ drop (x + c.args.count) (text_places t) =
@@ -57,10 +56,10 @@ pub returns : goal.returns
 returns g c =
     let t = c.args.self.now in
     let e = c.take_out-rest.ensures in
-    let tree_is = c.replace-tree.ensures.value in
+    let tree_is = ap (λ u. u.tree) c.replace-tree.ensures.value in
     let x = c.args.offset in
     let n = c.args.count in
-    let part = c.take_out-rest.result.1 in
+    let part = c.take_out-rest.result.1.tree in
     let back = c.keep_runs.ensures in
     let kept = longest part e.standing.1.weighed e.standing.1.apart in
     let spelled : places part ≡ take n (drop x (text_places t)) = e.part ∙ ap (λ u. take n (drop x (places u))) tree_is in
