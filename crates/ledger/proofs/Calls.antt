@@ -1,7 +1,7 @@
 -- What it says of a call that nothing denies it, and what calls one after the other leave and answer. Assumes nothing.
 use Rattle.std.proofs.Common.{◌≡◌, ℕ, suc, Bool, true, false, cond, List, [], ◌∷◌, ◌++◌, length, Some, None, Option, refl, ap, arith}
 use Rattle.std.proofs.lemmas.Bool.{true≢false, false≢true}
-use Rattle.std.specs.List.{AllByRecursion as All}
+use Rattle.std.specs.List.{AllByRecursion}
 use Rattle.ledger.specs.Answers.{answer, answers}
 use Rattle.ledger.specs.Calls.{Call, first_held, denial, effect, next, run, unless_denied}
 use Rattle.ledger.specs.Ledgers.{Ledger, is_open, steps_open}
@@ -17,7 +17,7 @@ first_fails false d others e = (refl, e)
 
 -- every test of a table fails
 abbrev pub AllFail : List (Bool × Denial) → Type 0
-AllFail table = All (λ test. test.0 ≡ false) table
+AllFail table = AllByRecursion (λ test. test.0 ≡ false) table
 
 -- so they do where nothing denies a call
 pub all_fail : (table : List (Bool × Denial)) → first_held table ≡ None → AllFail table

@@ -1,14 +1,14 @@
 -- Where inserts stand right behind all that was added before, every place of a text is in its source, and elements that are
 -- added later change no text. Assumes nothing.
 use Rattle.std.proofs.Common.{◌≡◌, ℕ, zero, suc, ◌+◌, ◌-◌, ◌<◌, ◌≤◌, eqb, List, [], ◌∷◌, ◌++◌, length, take, drop, sym, refl, ap, ◌∙◌, arith, length-append, length-drop, length-take}
-use Rattle.std.proofs.ByRecursion.{All-append, All-take, All-drop}
 use Rattle.std.proofs.lemmas.List.{take-take, drop-take}
+use Rattle.std.proofs.lemmas.List.Elements.{All-append, All-cons, All-drop, All-head, All-nil, All-tail, All-take}
 use Rattle.std.proofs.lemmas.Bool.{cond_both}
-use Rattle.std.specs.List.{AllByRecursion as All}
+use Rattle.std.specs.List.{All}
 use Rattle.ledger.specs.History.{Version, story, added_made}
 use Rattle.ledger.specs.Ledgers.{Ledger, steps_open, path, text, content, added_used}
 use Rattle.ledger.specs.Legal.{StartsAt, Placed, AllPlaced}
-use Rattle.ledger.specs.Places.{stretch, source_list, elements_at}
+use Rattle.ledger.specs.Places.{place, stretch, source_list, elements_at}
 use Rattle.ledger.specs.Steps.{added_by, all_added, replay}
 use Rattle.ledger.specs.declared.words.Place.{Place}
 use Rattle.ledger.specs.declared.words.Source.{Source}
@@ -30,13 +30,13 @@ step_inside a used (SetMark name m) s l = tt
 step_inside a used (DropMark name) s l = tt
 
 placed_inside : (a used : ℕ) (steps : List Step) → Placed used steps → all_added steps + used ≤ a → All (Inside a) steps
-placed_inside a used [] p l = tt
+placed_inside a used [] p l = All-nil (Inside a)
 placed_inside a used (step ∷ before) p l =
-    (step_inside a (all_added before + used) step p.0 (omega arith), placed_inside a used before p.1 (omega arith))
+    All-cons (Inside a) step before (step_inside a (all_added before + used) step p.0 (omega arith)) (placed_inside a used before p.1 (omega arith))
 
 -- the story of any version has only elements that the versions added
 story_inside : (a k : ℕ) (vs : List Version) → AllPlaced vs → added_made vs ≤ a → All (Inside a) (story k vs)
-story_inside a k [] p l = tt
+story_inside a k [] p l = All-nil (Inside a)
 story_inside a k (v ∷ older) p l =
     cond_both (eqb k (length older)) (v.steps ++ story v.parent older) (story k older) (All (Inside a))
     (λ e.
@@ -55,22 +55,23 @@ module _ (n a : ℕ) where
   Lies p = p.index < size p.source
 
   stretch_lies : (source : Source) (start k : ℕ) → start + k ≤ size source → All Lies (stretch source start k)
-  stretch_lies source start zero l = tt
-  stretch_lies source start (suc k) l = (omega arith, stretch_lies source (suc start) k (omega arith))
+  stretch_lies source start zero l = All-nil Lies
+  stretch_lies source start (suc k) l =
+      All-cons Lies (place source start) (stretch source (suc start) k) (omega arith) (stretch_lies source (suc start) k (omega arith))
 
   replay_lies : (steps : List Step) → All (Inside a) steps → All Lies (replay n steps).places
   replay_lies [] p = stretch_lies Original 0 n (omega arith)
   replay_lies (Insert x k start ∷ before) p =
-      let h = replay_lies before p.1 in
+      let h = replay_lies before (All-tail (Inside a) (Insert x k start) before p) in
       let c : List Place = (replay n before).places in
       All-append Lies (take x c) (stretch Added start k ++ drop x c) (All-take Lies x c h)
-      (All-append Lies (stretch Added start k) (drop x c) (stretch_lies Added start k p.0) (All-drop Lies x c h))
+      (All-append Lies (stretch Added start k) (drop x c) (stretch_lies Added start k (All-head (Inside a) (Insert x k start) before p)) (All-drop Lies x c h))
   replay_lies (Delete x k ∷ before) p =
-      let h = replay_lies before p.1 in
+      let h = replay_lies before (All-tail (Inside a) (Delete x k) before p) in
       let c : List Place = (replay n before).places in
       All-append Lies (take x c) (drop (x + k) c) (All-take Lies x c h) (All-drop Lies (x + k) c h)
-  replay_lies (SetMark name m ∷ before) p = replay_lies before p.1
-  replay_lies (DropMark name ∷ before) p = replay_lies before p.1
+  replay_lies (SetMark name m ∷ before) p = replay_lies before (All-tail (Inside a) (SetMark name m) before p)
+  replay_lies (DropMark name ∷ before) p = replay_lies before (All-tail (Inside a) (DropMark name) before p)
 
 module _ {E : Type 0} (original added : List E) where
   one_there : (source : Source) (i : ℕ) → i < size (length original) (length added) source → length (take 1 (drop i (source_list original added source))) ≡ 1
@@ -80,8 +81,9 @@ module _ {E : Type 0} (original added : List E) where
   elements_length : (ps : List Place) → All (Lies (length original) (length added)) ps → length (elements_at original added ps) ≡ length ps
   elements_length [] p = refl
   elements_length (x ∷ ps) p =
-      let h = elements_length ps p.1 in
-      let one = one_there x.source x.index p.0 in
+      let Lie = Lies (length original) (length added) in
+      let h = elements_length ps (All-tail Lie x ps p) in
+      let one = one_there x.source x.index (All-head Lie x ps p) in
       simp length-append (omega arith)
 
 pub whole_text : {E : Type 0} (l : Ledger E) → Placed (added_made l.versions) (steps_open l.group) → AllPlaced l.versions → length l.added ≡ added_used l → length (text l) ≡ length (content l).places
@@ -104,7 +106,9 @@ module _ {E : Type 0} (b : ℕ) (original xs : List E) where
 
   elements_in_front : (ps : List Place) → All (Lies (length original) b) ps → elements_at original (take b xs) ps ≡ elements_at original xs ps
   elements_in_front [] h = refl
-  elements_in_front (p ∷ ps) h = λ i. one_in_front p.source p.index h.0 i ++ elements_in_front ps h.1 i
+  elements_in_front (p ∷ ps) h =
+      let Lie = Lies (length original) b in
+      λ i. one_in_front p.source p.index (All-head Lie p ps h) i ++ elements_in_front ps (All-tail Lie p ps h) i
 
 -- a version's text is the same over all added sources that agree on what the versions added
 pub version_same :
