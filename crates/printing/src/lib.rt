@@ -65,6 +65,7 @@ impl Page<'_> {
 }
 
 // The eight lower-case hexadecimal digits of `n`, most significant first.
+#[tactic(auto, using(crate::proofs::Hexadecimals::hex_of_bytes, crate::proofs::Hexadecimals::hex_reads_back))]
 pub fn hexadecimal(n: u32) -> [u8; 8]
     ensures digits { result ≡ hex8 n }
     ensures reads_back { hex_value result ≡ n }

@@ -10,7 +10,6 @@ use measure::{Fingerprint, Pair, Tally, fold};
 use printing::{Line, denial_line, totals_line};
 use script::paper::{INPUT_LIMIT, read_paper};
 use std::alloc::{AllocError, Global};
-use std::io;
 use std::io::{Read, Write};
 
 // The hand that a set text is typed by.
@@ -19,19 +18,20 @@ const SET_HAND: u8 = 0;
 // The totals that a session keeps of every part of its text.
 pub type Totals = Pair<Fingerprint, Tally>;
 
-// Fronts a paper, and writes what is printed for it.
+// Reads a paper, and writes what is printed for it.
 pub fn answer_paper<E: Element, R: Read + Drop, W: Write>(
     alloc: Global,
     input: R,
     output: &mut W,
-) -> io::Result<()>
+) -> anyhow::Result<()>
     ensures { OnOk result (IfSome (R.remaining input) (λ paper. Appends (W.contents output.old) (W.contents output.new) (report E.made E.shown E.typist paper))) }
 {
     let mut paper = Vec::new(alloc);
     // One byte above the limit is enough to see that an input is too long.
     input.take(INPUT_LIMIT as u64 + 1).read_to_end(&mut paper)?;
     let printed = run::<E>(alloc, &paper)?;
-    output.write_all(&printed)
+    output.write_all(&printed)?;
+    Ok(())
 }
 
 // What is printed for an input: a denial of it, or the totals of its set text.
