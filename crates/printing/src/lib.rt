@@ -36,6 +36,7 @@ impl Page<'_> {
         if end > self.buffer.len() {
             return Err(NoRoom);
         }
+        // By an index: std does not say what a write through `get_mut` of a range leaves in the buffer.
         self.buffer[self.end..end].copy_from_slice(bytes);
         self.end = end;
         Ok(())
@@ -84,7 +85,8 @@ pub fn decimal_width(n: u64) -> usize
     buffer.format(n).len()
 }
 
-// The line of a denial: a question mark, its number in decimal, the end of the line.
+// The line of a denial: a question mark, its number in decimal, the end of the line. Lines are pushed together, since no clause of
+// std says that `write!` succeeds where there is room.
 pub fn denial_line(number: u8) -> Line
     ensures { result.bytes ≡ denial_line number }
 {
@@ -122,8 +124,8 @@ mod tests {
             end: 0,
         };
         let printed = page.write_decimal(n);
-        let len = page.end;
-        printed.is_ok() && len == digits.len() && len <= out.len() && &out[0..len] == digits
+        let end = page.end;
+        printed.is_ok() && out.get(..end) == Some(digits)
     }
 
     #[test]

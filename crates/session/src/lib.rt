@@ -62,3 +62,33 @@ fn set_elements<E: Element>(alloc: Global, text: &[u8]) -> Result<Vec<E>, AllocE
         .map(|byte| E::make(*byte, SET_HAND))
         .collect(alloc)
 }
+
+#[cfg(test)]
+mod tests {
+    use super::*;
+    use element::Cell;
+    use std::test::Fail;
+
+    // Whether `line` is what is printed for a paper.
+    fn prints<E: Element>(alloc: Global, paper: &[u8], line: &[u8]) -> anyhow::Result<bool> {
+        let mut output = Vec::new(alloc);
+        answer_paper::<E, _, _>(alloc, paper, &mut output)?;
+        Ok(output.as_slice() == line)
+    }
+
+    #[test]
+    fn totals_of_a_set_text(rt: HostRuntime) -> Result<(), Fail> {
+        assert!(rt; prints::<u8>(rt.alloc(), b"ab\n.\n,p\n", b"00017bea 0\n")?);
+        assert!(rt; prints::<Cell>(rt.alloc(), b".\n", b"00000000 0\n")?);
+        Ok(())
+    }
+
+    #[test]
+    fn denials_of_a_paper(rt: HostRuntime) -> Result<(), Fail> {
+        let long = vec![in rt.alloc(); b'\n'; INPUT_LIMIT + 1]?;
+        assert!(rt; prints::<u8>(rt.alloc(), &long, b"?20\n")?);
+        assert!(rt; prints::<u8>(rt.alloc(), b"", b"?21\n")?);
+        assert!(rt; prints::<Cell>(rt.alloc(), b"ab\n", b"?22\n")?);
+        Ok(())
+    }
+}
