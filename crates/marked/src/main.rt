@@ -5,6 +5,5 @@ use element::Cell;
 use session::answer_paper;
 
 fn main(rt: HostRuntime) -> anyhow::Result<()> {
-    answer_paper::<Cell, _, _>(rt.alloc(), rt.stdin(), &mut rt.stdout())?;
-    Ok(())
+    answer_paper::<Cell, _, _>(rt.alloc(), rt.stdin(), &mut rt.stdout())
 }

@@ -4,6 +4,5 @@
 use session::answer_paper;
 
 fn main(rt: HostRuntime) -> anyhow::Result<()> {
-    answer_paper::<u8, _, _>(rt.alloc(), rt.stdin(), &mut rt.stdout())?;
-    Ok(())
+    answer_paper::<u8, _, _>(rt.alloc(), rt.stdin(), &mut rt.stdout())
 }

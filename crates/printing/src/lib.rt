@@ -36,6 +36,7 @@ impl Page<'_> {
         if end > self.buffer.len() {
             return Err(NoRoom);
         }
+        // By an index: std does not say what a write through `get_mut` of a range leaves in the buffer.
         self.buffer[self.end..end].copy_from_slice(bytes);
         self.end = end;
         Ok(())
@@ -65,6 +66,7 @@ impl Page<'_> {
 }
 
 // The eight lower-case hexadecimal digits of `n`, most significant first.
+#[tactic(auto, using(crate::proofs::Hexadecimals::hex_of_bytes, crate::proofs::Hexadecimals::hex_reads_back))]
 pub fn hexadecimal(n: u32) -> [u8; 8]
     ensures digits { result ≡ hex8 n }
     ensures reads_back { hex_value result ≡ n }
@@ -83,7 +85,8 @@ pub fn decimal_width(n: u64) -> usize
     buffer.format(n).len()
 }
 
-// The line of a denial: a question mark, its number in decimal, the end of the line.
+// The line of a denial: a question mark, its number in decimal, the end of the line. Lines are pushed together, since no clause of
+// std says that `write!` succeeds where there is room.
 pub fn denial_line(number: u8) -> Line
     ensures { result.bytes ≡ denial_line number }
 {
@@ -121,8 +124,8 @@ mod tests {
             end: 0,
         };
         let printed = page.write_decimal(n);
-        let len = page.end;
-        printed.is_ok() && len == digits.len() && len <= out.len() && &out[0..len] == digits
+        let end = page.end;
+        printed.is_ok() && out.get(..end) == Some(digits)
     }
 
     #[test]

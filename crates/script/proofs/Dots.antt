@@ -51,12 +51,12 @@ rejoin_lines (b ∷ bs) =
     [ true ↦ ap (λ l. b ∷ l) more | false ↦ rejoin_onto b (byte_lines bs) ∙ ap (λ l. b ∷ l) more ]
 
 pub is_dot_true : (l : List ℕ) → is_dot l ≡ true → l ≡ dot_line
-is_dot_true [] e = absurd (both_ways false refl e)
-is_dot_true (a ∷ []) e = absurd (both_ways false refl e)
+is_dot_true [] e = cc
+is_dot_true (a ∷ []) e = cc
 is_dot_true (a ∷ b ∷ []) e =
     let p = and_parts (eqb a 46) (eqb b 10) e in
     λ i. eqb-true a 46 p.0 i ∷ eqb-true b 10 p.1 i ∷ []
-is_dot_true (a ∷ b ∷ c ∷ l) e = absurd (both_ways false refl e)
+is_dot_true (a ∷ b ∷ c ∷ l) e = cc
 
 pub is_dot_false : (l : List ℕ) → is_dot l ≡ false → l ≡ dot_line → ⊥
 is_dot_false l e is = both_ways (is_dot l) e (ap is_dot is)
@@ -140,12 +140,12 @@ ended (b ∷ bs) h =
 
 -- what a mapped option was made from
 from_some : {X Y : Type 0} (f : X → Y) (o : Option X) (y : Y) → option_map f o ≡ Some y → (x : X) × (o ≡ Some x) × (f x ≡ y)
-from_some f None y e = let z : ◌≡◌ {A = ℕ} 0 1 = cc in absurd (omega arith)
+from_some f None y e = cc
 from_some f (Some x) y e = (x, refl, cc)
 
 from_none : {X Y : Type 0} (f : X → Y) (o : Option X) → option_map f o ≡ None → o ≡ None
 from_none f None e = refl
-from_none f (Some x) e = let z : ◌≡◌ {A = ℕ} 0 1 = cc in absurd (omega arith)
+from_none f (Some x) e = cc
 
 -- the law at the dot line itself
 law_here : (bs line : List ℕ) (ls : List (List ℕ)) (n : ℕ) → take n bs ≡ line → byte_lines (drop n bs) ≡ ls → is_dot line ≡ true → FirstDot bs [] (rejoin ls)
@@ -170,8 +170,8 @@ law_before bs line cut first other h =
     }
 
 law : (ls : List (List ℕ)) (bs : List ℕ) (cut : Cut) → byte_lines bs ≡ ls → cut_lines ls ≡ Some cut → FirstDot bs (rejoin cut.0) (rejoin cut.1)
-law [] bs cut e h = let z : ◌≡◌ {A = ℕ} 0 1 = cc in absurd (omega arith)
-law (l ∷ ls) [] cut e h = let z : ◌≡◌ {A = ℕ} 0 1 = cc in absurd (omega arith)
+law [] bs cut e h = cc
+law (l ∷ ls) [] cut e h = cc
 law (l ∷ ls) (b ∷ bs) cut e h =
     let all : List ℕ = b ∷ bs in
     let n : ℕ = line_size all in
@@ -203,8 +203,7 @@ other_lines (l ∷ ls) e =
     ⊎_elim
     (λ is.
     let same : Some ([], ls) ≡ None = sym (cond-true (is_dot l) (Some ([], ls)) (option_map (under l) (cut_lines ls)) is) ∙ e in
-    let z : ◌≡◌ {A = ℕ} 0 1 = cc in
-    absurd (omega arith))
+    cc)
     (λ other.
     let same : option_map (under l) (cut_lines ls) ≡ None = sym (cond-false (is_dot l) (Some ([], ls)) (option_map (under l) (cut_lines ls)) other) ∙ e in
     (is_dot_false l other, more (from_none (under l) (cut_lines ls) same)))

@@ -1,7 +1,7 @@
 -- How an input falls into a set text and a script. A byte is its number: 10 is a line break, 46 a dot. Assumes nothing.
 use Rattle.std.specs.Prelude.{◌≡◌, ℕ, suc, ◌-◌, ◌<◌, Bool, false, cond, not, ◌&&◌, List, [], ◌∷◌, ◌++◌, length, Some, None, Err, Option, Result, ◌==◌, ◌≢◌, nat_eq, nat_lt, slice_index}
 use Rattle.std.specs.Option.{option_map, ok_or}
-use Rattle.std.specs.List.{AllByRecursion}
+use Rattle.std.specs.List.{AllByRecursion, concat}
 use Rattle.element.specs.Lines.{lines}
 use Rattle.script.specs.declared.denial.SessionDenial.{SessionDenial}
 use Rattle.script.specs.declared.denial.SessionDenial.TheVariants.{InputTooLong, NoFinalBreak, NoDotLine}
@@ -12,8 +12,7 @@ byte_lines = lines (λ b. nat_eq b 10)
 
 -- the bytes of some lines, one line after the other
 abbrev pub rejoin : List (List ℕ) → List ℕ
-rejoin [] = []
-rejoin (line ∷ more) = line ++ rejoin more
+rejoin = concat
 
 -- how many bytes the first line has
 abbrev pub line_size : List ℕ → ℕ

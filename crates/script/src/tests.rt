@@ -44,24 +44,21 @@ fn papers(rt: HostRuntime) {
     assert_eq!(rt; read_paper(b"a\n..\n .\n"), Err(SessionDenial::NoDotLine));
 }
 
-// The number of the denial, or 0.
-fn denied(input: &[u8]) -> u8 {
-    match read_paper(input) {
-        Ok(_) => 0,
-        Err(denial) => denial.number(),
-    }
+// The number of the denial, where there is one.
+fn denied(input: &[u8]) -> Option<u8> {
+    read_paper(input).err().map(SessionDenial::number)
 }
 
 #[test]
 fn the_limit(rt: HostRuntime) -> Result<(), Fail> {
     let mut full = vec![in rt.alloc(); b'\n'; INPUT_LIMIT]?;
-    assert_eq!(rt; denied(&full), 22);
+    assert_eq!(rt; denied(&full), Some(22));
     if let Some(first) = full.first_mut() {
         *first = b'.';
     }
-    assert_eq!(rt; denied(&full), 0);
+    assert_eq!(rt; denied(&full), None);
     full.push(b'\n')?;
-    assert_eq!(rt; denied(&full), 20);
+    assert_eq!(rt; denied(&full), Some(20));
     Ok(())
 }
 

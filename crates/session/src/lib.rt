@@ -10,7 +10,6 @@ use measure::{Fingerprint, Pair, Tally, fold};
 use printing::{Line, denial_line, totals_line};
 use script::paper::{INPUT_LIMIT, read_paper};
 use std::alloc::{AllocError, Global};
-use std::io;
 use std::io::{Read, Write};
 
 // The hand that a set text is typed by.
@@ -19,19 +18,20 @@ const SET_HAND: u8 = 0;
 // The totals that a session keeps of every part of its text.
 pub type Totals = Pair<Fingerprint, Tally>;
 
-// Fronts a paper, and writes what is printed for it.
+// Reads a paper, and writes what is printed for it.
 pub fn answer_paper<E: Element, R: Read + Drop, W: Write>(
     alloc: Global,
     input: R,
     output: &mut W,
-) -> io::Result<()>
+) -> anyhow::Result<()>
     ensures { OnOk result (IfSome (R.remaining input) (λ paper. Appends (W.contents output.old) (W.contents output.new) (report E.made E.shown E.typist paper))) }
 {
     let mut paper = Vec::new(alloc);
     // One byte above the limit is enough to see that an input is too long.
     input.take(INPUT_LIMIT as u64 + 1).read_to_end(&mut paper)?;
     let printed = run::<E>(alloc, &paper)?;
-    output.write_all(&printed)
+    output.write_all(&printed)?;
+    Ok(())
 }
 
 // What is printed for an input: a denial of it, or the totals of its set text.
@@ -61,4 +61,34 @@ fn set_elements<E: Element>(alloc: Global, text: &[u8]) -> Result<Vec<E>, AllocE
     text.iter()
         .map(|byte| E::make(*byte, SET_HAND))
         .collect(alloc)
+}
+
+#[cfg(test)]
+mod tests {
+    use super::*;
+    use element::Cell;
+    use std::test::Fail;
+
+    // Whether `line` is what is printed for a paper.
+    fn prints<E: Element>(alloc: Global, paper: &[u8], line: &[u8]) -> anyhow::Result<bool> {
+        let mut output = Vec::new(alloc);
+        answer_paper::<E, _, _>(alloc, paper, &mut output)?;
+        Ok(output.as_slice() == line)
+    }
+
+    #[test]
+    fn totals_of_a_set_text(rt: HostRuntime) -> Result<(), Fail> {
+        assert!(rt; prints::<u8>(rt.alloc(), b"ab\n.\n,p\n", b"00017bea 0\n")?);
+        assert!(rt; prints::<Cell>(rt.alloc(), b".\n", b"00000000 0\n")?);
+        Ok(())
+    }
+
+    #[test]
+    fn denials_of_a_paper(rt: HostRuntime) -> Result<(), Fail> {
+        let long = vec![in rt.alloc(); b'\n'; INPUT_LIMIT + 1]?;
+        assert!(rt; prints::<u8>(rt.alloc(), &long, b"?20\n")?);
+        assert!(rt; prints::<u8>(rt.alloc(), b"", b"?21\n")?);
+        assert!(rt; prints::<Cell>(rt.alloc(), b"ab\n", b"?22\n")?);
+        Ok(())
+    }
 }

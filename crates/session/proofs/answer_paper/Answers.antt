@@ -1,5 +1,4 @@
 use Rattle.std.proofs.Common.{ap, ◌∙◌}
-use Rattle.std.proofs.lemmas.Result.{on_ok_weaker}
 use Rattle.session.specs.Report.{report}
 use Rattle.session.proofs.Fronts.{answered}
 use Rattle.session.proofs.answer_paper.Goals as goal
@@ -7,7 +6,6 @@ use Rattle.session.proofs.answer_paper.Goals as goal
 pub returns : goal.returns
 returns g c =
     let e = g.E.Element in
-    on_ok_weaker c.write_all.result
-    (answered e.made e.shown e.typist g.R.Read.remaining c.args.input c.take.result _ _ _ _ _ c.take.ensures.limit c.take.ensures.inner c.new-paper.ensures.items
-    c.in_ok-read_to_end.ensures.bytes (c.deref-2.ensures.value ∙ c.in_ok-printed.ensures ∙ ap (report e.made e.shown e.typist) c.deref.ensures.value))
-    c.write_all.ensures.bytes
+    let printed = c.deref-2.ensures.value ∙ c.in_ok-printed.ensures ∙ ap (report e.made e.shown e.typist) c.deref.ensures.value in
+    answered e.made e.shown e.typist g.R.Read.remaining c.args.input c.take.result _ _ _ _ _ c.take.ensures.limit c.take.ensures.inner c.new-paper.ensures.items
+    c.in_ok-read_to_end.ensures.bytes printed c.in_ok-write_all.ensures.bytes
