@@ -3,8 +3,8 @@ ghost use Rattle.std.specs.Prelude.{◌≡◌, ◌+◌, ◌^◌, ◌<◌, ◌≤
 ghost use Rattle.ledger.specs.Places.{stretch};
 ghost use Rattle.ledger.specs.declared.words.Source.TheVariants.{Original};
 ghost use Rattle.nodes.specs.Trees.{items, long};
-ghost use Rattle.pieces.specs.Faithful.{Faithful};
-ghost use Rattle.pieces.specs.Spread.{places, Standing};
+ghost use Rattle.pieces.specs.Sources.{FaithfulTo, StandingOver};
+ghost use Rattle.pieces.specs.Spread.{places};
 ghost use Rattle.text.specs.Texts.{places_owned, text_places, Measured};
 
 use crate::Text;
@@ -13,7 +13,7 @@ use ledger::words::{Place, Source};
 use measure::{Measure, Total};
 use nodes::{Node, Tree, draw, recycle};
 use piece_tree::join;
-use pieces::measure_piece;
+use pieces::Sources;
 
 impl<'o, E: Element, T: Measure<E>> Text<'o, E, T> {
     // The text of an original, with nothing added: at most one piece.
@@ -36,7 +36,11 @@ impl<'o, E: Element, T: Measure<E>> Text<'o, E, T> {
         let mut added = added;
         let mut stock = stock;
         added.clear();
-        let tree = whole_tree(original, &added, &mut stock);
+        let sources = Sources {
+            original,
+            added: &added,
+        };
+        let tree = whole_tree(sources, &mut stock);
         Text {
             original,
             added,
@@ -66,20 +70,19 @@ impl<'o, E: Element, T: Measure<E>> Text<'o, E, T> {
 
 // The tree of a whole original.
 fn whole_tree<E: Element, T: Measure<E>>(
-    original: &[E],
-    added: &[E],
+    sources: Sources<'_, E>,
     stock: &mut Vec<Box<Node<Place, T>>>,
 ) -> Tree<Place, T>
-    requires one { 0 < length original.now → 0 < vec_len stock.old }
-    ensures places { places result ≡ stretch Original 0 (length original.now) }
-    ensures long { long result ≡ length original.now }
-    ensures few { (length (items result) ≤ 1) × ((length original.now ≡ 0 → length (items result) ≡ 0)) }
-    ensures standing { Standing (length original.now) (length added.now) result }
-    ensures faithful { Faithful E.breaks T.neutral T.value T.joined original.now added.now result }
+    requires one { 0 < length sources.original.now → 0 < vec_len stock.old }
+    ensures places { places result ≡ stretch Original 0 (length sources.entry.original.now) }
+    ensures long { long result ≡ length sources.entry.original.now }
+    ensures few { (length (items result) ≤ 1) × ((length sources.entry.original.now ≡ 0 → length (items result) ≡ 0)) }
+    ensures standing { StandingOver sources.entry result }
+    ensures faithful { FaithfulTo E.breaks T.neutral T.value T.joined sources.entry result }
     ensures stock { vec_len stock.new + length (items result) ≡ vec_len stock.old }
     ensures capacity { vec_capacity stock.new ≡ vec_capacity stock.old }
 {
-    let count = original.len();
+    let count = sources.original.len();
     if count == 0 {
         return Tree::Empty;
     }
@@ -87,6 +90,6 @@ fn whole_tree<E: Element, T: Measure<E>>(
         source: Source::Original,
         index: 0,
     };
-    let place = draw(stock, measure_piece(original, added, first, count));
+    let place = draw(stock, sources.measure(first, count));
     join(Tree::Empty, place, Tree::Empty)
 }

@@ -10,6 +10,7 @@ use element::Element;
 use ledger::words::{Piece, Place, Source};
 use measure::{Measure, Total};
 use nodes::{Tree, recycle};
+use pieces::Sources;
 use splicing::{insert_run, keep_runs, put_back, take_out};
 
 impl<'o, E: Element, T: Measure<E>> Text<'o, E, T> {
@@ -29,15 +30,11 @@ impl<'o, E: Element, T: Measure<E>> Text<'o, E, T> {
             index: start,
         };
         let tree = std::mem::replace(&mut self.tree, Tree::Empty);
-        self.tree = insert_run(
-            self.original,
-            &self.added,
-            tree,
-            offset,
-            first,
-            count,
-            &mut self.stock,
-        );
+        let sources = Sources {
+            original: self.original,
+            added: &self.added,
+        };
+        self.tree = insert_run(sources, tree, offset, first, count, &mut self.stock);
     }
 
     // Removes the `count` elements behind the first `offset`.
@@ -50,14 +47,11 @@ impl<'o, E: Element, T: Measure<E>> Text<'o, E, T> {
         ensures measured { Measured E.breaks T.neutral T.value T.joined self.old → Measured E.breaks T.neutral T.value T.joined self.new }
     {
         let tree = std::mem::replace(&mut self.tree, Tree::Empty);
-        let (rest, part) = take_out(
-            self.original,
-            &self.added,
-            tree,
-            offset,
-            count,
-            &mut self.stock,
-        );
+        let sources = Sources {
+            original: self.original,
+            added: &self.added,
+        };
+        let (rest, part) = take_out(sources, tree, offset, count, &mut self.stock);
         recycle(part, &mut self.stock);
         self.tree = rest;
     }
@@ -76,14 +70,11 @@ impl<'o, E: Element, T: Measure<E>> Text<'o, E, T> {
         ensures measured { Measured E.breaks T.neutral T.value T.joined self.old → Measured E.breaks T.neutral T.value T.joined self.new }
     {
         let tree = std::mem::replace(&mut self.tree, Tree::Empty);
-        let (rest, part) = take_out(
-            self.original,
-            &self.added,
-            tree,
-            offset,
-            count,
-            &mut self.stock,
-        );
+        let sources = Sources {
+            original: self.original,
+            added: &self.added,
+        };
+        let (rest, part) = take_out(sources, tree, offset, count, &mut self.stock);
         keep_runs(part, &mut self.stock, runs);
         self.tree = rest;
     }
@@ -101,13 +92,10 @@ impl<'o, E: Element, T: Measure<E>> Text<'o, E, T> {
         ensures measured { Measured E.breaks T.neutral T.value T.joined self.old → Measured E.breaks T.neutral T.value T.joined self.new }
     {
         let tree = std::mem::replace(&mut self.tree, Tree::Empty);
-        self.tree = put_back(
-            self.original,
-            &self.added,
-            tree,
-            offset,
-            runs,
-            &mut self.stock,
-        );
+        let sources = Sources {
+            original: self.original,
+            added: &self.added,
+        };
+        self.tree = put_back(sources, tree, offset, runs, &mut self.stock);
     }
 }

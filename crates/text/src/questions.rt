@@ -5,20 +5,43 @@ ghost use Rattle.measure.specs.Totals.{total};
 ghost use Rattle.ledger.specs.Answers.{Shallow};
 ghost use Rattle.ledger.specs.Places.{pieces_of, stretch};
 ghost use Rattle.ledger.specs.declared.words.Source.TheVariants.{Added};
+ghost use Rattle.nodes.specs.Trees.{long};
 ghost use Rattle.reading.specs.LineParts.{line_found, part};
-ghost use Rattle.text.specs.Texts.{added_of, text_places, written, Measured};
+ghost use Rattle.text.specs.Texts.{added_of, original_of, text_places, written, Measured};
 
 use crate::Text;
 use element::Element;
 use ledger::words::{Place, Source};
 use measure::{Measure, Total};
 use nodes::sums;
-use reading::{
-    element_at, line, line_count, line_of, part_total, pieces_with, pieces_without, runs_in,
-};
+use pieces::Sources;
+use reading::{Counter, Reader};
 use seeking::depth;
 
 impl<'o, E: Element, T: Measure<E>> Text<'o, E, T> {
+    // The text to be read.
+    fn reader(&self) -> Reader<'_, E, T>
+        ensures sources { (result.sources.original.now ≡ original_of self.now) × (result.sources.added.now ≡ added_of self.now) }
+        ensures tree { result.tree.now ≡ self.now.tree }
+        ensures long { long result.tree.now ≡ length (text_places self.now) }
+    {
+        Reader {
+            sources: Sources {
+                original: self.original,
+                added: &self.added,
+            },
+            tree: &self.tree,
+        }
+    }
+
+    // The text to be counted.
+    fn counter(&self) -> Counter<'_, T>
+        ensures tree { result.tree.now ≡ self.now.tree }
+        ensures long { long result.tree.now ≡ length (text_places self.now) }
+    {
+        Counter { tree: &self.tree }
+    }
+
     // The number of elements.
     pub fn len(&self) -> usize
         ensures places { result ≡ length (text_places self.now) }
@@ -47,7 +70,7 @@ impl<'o, E: Element, T: Measure<E>> Text<'o, E, T> {
         requires within { offset < length (text_places self.now) }
         ensures { drop offset (written self.now) ≡ result ∷ drop (offset + 1) (written self.now) }
     {
-        element_at(self.original, &self.added, &self.tree, offset)
+        self.reader().element_at(offset)
     }
 
     // The number of pieces.
@@ -69,7 +92,7 @@ impl<'o, E: Element, T: Measure<E>> Text<'o, E, T> {
             source: Source::Added,
             index: start,
         };
-        pieces_with(&self.tree, offset, first, count)
+        self.counter().pieces_with(offset, first, count)
     }
 
     // The number of pieces once the `count` elements behind the first `offset` are removed.
@@ -77,7 +100,7 @@ impl<'o, E: Element, T: Measure<E>> Text<'o, E, T> {
         requires within { offset + count ≤ length (text_places self.now) }
         ensures { result ≡ length (pieces_of (take offset (text_places self.now) ++ drop (offset + count) (text_places self.now))) }
     {
-        pieces_without(&self.tree, offset, count)
+        self.counter().pieces_without(offset, count)
     }
 
     // The number of runs of a part: its pieces.
@@ -85,21 +108,21 @@ impl<'o, E: Element, T: Measure<E>> Text<'o, E, T> {
         requires within { offset + count ≤ length (text_places self.now) }
         ensures { result ≡ length (pieces_of (take count (drop offset (text_places self.now)))) }
     {
-        runs_in(&self.tree, offset, count)
+        self.counter().runs_in(offset, count)
     }
 
     // The number of lines. A line ends with its break; a last line without one counts too.
     pub fn line_count(&self) -> usize
         ensures { Measured E.breaks T.neutral T.value T.joined self.now → result ≡ length (lines E.breaks (written self.now)) }
     {
-        line_count(self.original, &self.added, &self.tree)
+        self.reader().line_count()
     }
 
     // A line's first offset and its length, where there is a line of this number.
     pub fn line(&self, number: usize) -> Option<(usize, usize)>
         ensures { Measured E.breaks T.neutral T.value T.joined self.now → result ≡ line_found E.breaks (written self.now) number }
     {
-        line(self.original, &self.added, &self.tree, number)
+        self.reader().line(number)
     }
 
     // The line that holds the element at an offset.
@@ -107,7 +130,7 @@ impl<'o, E: Element, T: Measure<E>> Text<'o, E, T> {
         requires within { offset < length (text_places self.now) }
         ensures { Measured E.breaks T.neutral T.value T.joined self.now → result ≡ length (lines E.breaks (take (suc offset) (written self.now))) }
     {
-        line_of(self.original, &self.added, &self.tree, offset)
+        self.reader().line_of(offset)
     }
 
     // The total of the part from an offset up to another, which is left out.
@@ -115,7 +138,7 @@ impl<'o, E: Element, T: Measure<E>> Text<'o, E, T> {
         requires within { (from ≤ upto) × (upto ≤ length (text_places self.now)) }
         ensures { Measured E.breaks T.neutral T.value T.joined self.now → result ≡ total T.neutral T.value T.joined (part from upto (written self.now)) }
     {
-        part_total(self.original, &self.added, &self.tree, from, upto)
+        self.reader().part_total(from, upto)
     }
 
     // The tree places on the longest way down.
