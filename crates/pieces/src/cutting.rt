@@ -1,4 +1,5 @@
 // Cutting a tree of pieces in two.
+// A tree and the stock stay two parameters: a cut leaves two trees and one stock, from which both draw.
 ghost use Rattle.std.specs.Prelude.{◌≡◌, ℕ, ◌+◌, ◌^◌, ◌<◌, ◌≤◌, List, [], ◌∷◌, ◌++◌, length, take, drop, vec_len, vec_capacity};
 ghost use Rattle.nodes.specs.Trees.{items, long, Balanced, Bare, Fair, Summed, Weighed};
 ghost use Rattle.pieces.specs.Halves.{Halves};

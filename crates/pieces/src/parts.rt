@@ -18,6 +18,7 @@ pub struct Sources<'s, E> {
 
 impl<'s, E> Sources<'s, E> {
     // So many elements of a source, from a place on.
+    // A place and a count, and no Piece: an item of a tree has its length beside its place, and is often read in part.
     pub fn part(self, first: Place, count: usize) -> &'s [E]
         requires inside { Has self first count }
         ensures { result.now ≡ part_of self.entry first count }

@@ -13,8 +13,7 @@ fn go_on<T: Total>(before: Item<Place, T>, after: Item<Place, T>) -> bool
     ensures { result ≡ touches before after }
 {
     before.piece.source == after.piece.source
-        && before.piece.index <= after.piece.index
-        && after.piece.index - before.piece.index == before.length
+        && after.piece.index.checked_sub(before.piece.index) == Some(before.length)
 }
 
 // Joins two trees around their ends, the last place of the first and the first of the second, which become one where their

@@ -18,7 +18,7 @@ use Rattle.seeking.specs.declared.types.Found.{Found}
 use Rattle.seeking.specs.Seeks.{Stands}
 use Rattle.reading.proofs.Counting.{begins}
 use Rattle.pieces.proofs.Sewn.{same_true}
-use Rattle.pieces.proofs.Spreads.{spread_append}
+use Rattle.pieces.proofs.Spreads.{apart_back, apart_first, apart_last, spread_append}
 use Rattle.reading.proofs.Places.{drop_found, take_found}
 
 same_source_itself : (source : Source) → same_source source source ≡ true
@@ -95,24 +95,9 @@ module _ {T : Type 0} where
   abbrev back_of : Item Place T → ℕ → Item Place T
   back_of i n = record { piece = place i.piece.source (i.piece.index + n); length = i.length - n; breaks = i.breaks; total = i.total }
 
-  apart_front : (front : List (Item Place T)) (i : Item Place T) (back : List (Item Place T)) (n : ℕ) → Apart (front ++ i ∷ back) → Apart (front ++ front_of i n ∷ [])
-  apart_front [] i back n a = (tt, tt)
-  apart_front (x ∷ []) i back n a = (a.0, (tt, tt))
-  apart_front (x ∷ y ∷ front) i back n a = (a.0, apart_front (y ∷ front) i back n a.1)
-
   some_front : (front : List (Item Place T)) (i : Item Place T) (back : List (Item Place T)) (n : ℕ) → 0 < n → All Some (front ++ i ∷ back) → All Some (front ++ front_of i n ∷ [])
   some_front [] i back n l s = (l, tt)
   some_front (x ∷ front) i back n l s = (s.0, some_front front i back n l s.1)
-
-  starts_back : (i : Item Place T) (back : List (Item Place T)) (n : ℕ) → n < i.length → StartsApart i back → StartsApart (back_of i n) back
-  starts_back i [] n l a = tt
-  starts_back i (j ∷ more) n l a =
-      let on : i.piece.index + n + (i.length - n) ≡ i.piece.index + i.length = omega (arith, l) in
-      ap (λ k. same_source i.piece.source j.piece.source && eqb k j.piece.index) on ∙ a
-
-  apart_back : (front : List (Item Place T)) (i : Item Place T) (back : List (Item Place T)) (n : ℕ) → n < i.length → Apart (front ++ i ∷ back) → Apart (back_of i n ∷ back)
-  apart_back [] i back n l a = (starts_back i back n l a.0, a.1)
-  apart_back (x ∷ front) i back n l a = apart_back front i back n l a.1
 
   some_back : (front : List (Item Place T)) (i : Item Place T) (back : List (Item Place T)) (n : ℕ) → n < i.length → All Some (front ++ i ∷ back) → All Some (back_of i n ∷ back)
   some_back [] i back n l s = (omega (arith, l), s.1)
@@ -133,7 +118,7 @@ module _ {T : Type 0} where
         let front = stands.front in
         let is : List (Item Place T) = front ++ front_of i n ∷ [] in
         let cut : take offset (places tree) ≡ spread is = ap (λ is. take offset (spread is)) stands.parts ∙ take_found front i stands.back n offset (omega (arith, stands.elements, at)) (omega (arith, inner)) ∙ ap (λ ps. spread front ++ ps) (sym (append-nil (stretch i.piece.source i.piece.index n))) ∙ sym (spread_append front (front_of i n ∷ [])) in
-        let counted = count_items is (some_front front i stands.back n (omega arith) every_some) (apart_front front i stands.back n all_apart) in
+        let counted = count_items is (some_front front i stands.back n (omega arith) every_some) (apart_last front stands.back i (front_of i n) refl all_apart) in
         let got : length (pieces_of (take offset (places tree))) ≡ length front + 1 = ap (λ ps. length (pieces_of ps)) cut ∙ counted ∙ length-append front (front_of i n ∷ []) in
         omega (arith, got, stands.pieces)
 
@@ -144,7 +129,7 @@ module _ {T : Type 0} where
         let i = found.item in
         let is : List (Item Place T) = back_of i n ∷ stands.back in
         let cut : drop offset (places tree) ≡ spread is = ap (λ is. drop offset (spread is)) stands.parts ∙ drop_found stands.front i stands.back n offset (omega (arith, stands.elements, at)) (omega (arith, inner)) in
-        let counted = count_items is (some_back stands.front i stands.back n inner every_some) (apart_back stands.front i stands.back n inner all_apart) in
+        let counted = count_items is (some_back stands.front i stands.back n inner every_some) (apart_first stands.back i (back_of i n) refl (omega (arith, inner)) (apart_back stands.front (i ∷ stands.back) all_apart)) in
         let got : length (pieces_of (drop offset (places tree))) ≡ suc (length stands.back) = ap (λ ps. length (pieces_of ps)) cut ∙ counted in
         let whole = ap length stands.parts ∙ length-append stands.front (i ∷ stands.back) in
         omega (arith, got, whole, stands.pieces)

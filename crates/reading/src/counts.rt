@@ -24,6 +24,7 @@ impl<'t, T: Total> Counter<'t, T> {
     }
 
     // The number of pieces of the places behind the first `offset`.
+    // No twin of the one before it, which seeks the last place of a part: this one seeks the first of the rest.
     fn pieces_behind(&self, offset: usize) -> usize
         requires within { offset ≤ long self.now.tree.now }
         ensures { result ≡ length (pieces_of (drop offset (places self.now.tree.now))) }

@@ -1,5 +1,5 @@
 // The ends of parts of a text, and whether one part goes on to another.
-ghost use Rattle.std.specs.Prelude.{◌≡◌, ◌+◌, ◌-◌, ◌≤◌, take, drop, if◌then◌else◌};
+ghost use Rattle.std.specs.Prelude.{◌≡◌, ◌+◌, ◌-◌, ◌<◌, ◌≤◌, ◌++◌, take, drop, if◌then◌else◌};
 ghost use Rattle.nodes.specs.Trees.{long};
 ghost use Rattle.pieces.specs.Spread.{places};
 ghost use Rattle.reading.specs.Joints.{joint};
@@ -28,34 +28,38 @@ impl Spot {
 }
 
 impl<'t, T: Total> Counter<'t, T> {
+    // The place at an offset.
+    fn spot_at(&self, offset: usize) -> Spot
+        requires { offset < long self.now.tree.now }
+        ensures { drop offset (places self.now.tree.now) ≡ spotted (Some result) ++ drop (offset + 1) (places self.now.tree.now) }
+    {
+        let found = find(self.tree, offset);
+        Spot {
+            first: found.item.piece,
+            skip: found.inner,
+        }
+    }
+
     // The last of the first `offset` places.
     pub(crate) fn last_before(&self, offset: usize) -> Option<Spot>
-        requires within { offset ≤ long self.now.tree.now }
+        requires { offset ≤ long self.now.tree.now }
         ensures { spotted result ≡ drop (offset - 1) (take offset (places self.now.tree.now)) }
     {
         if offset == 0 {
             return None;
         }
-        let found = find(self.tree, offset - 1);
-        Some(Spot {
-            first: found.item.piece,
-            skip: found.inner,
-        })
+        Some(self.spot_at(offset - 1))
     }
 
     // The first of the places behind the first `offset`.
     pub(crate) fn first_behind(&self, offset: usize) -> Option<Spot>
-        requires within { offset ≤ long self.now.tree.now }
+        requires { offset ≤ long self.now.tree.now }
         ensures { spotted result ≡ take 1 (drop offset (places self.now.tree.now)) }
     {
         if offset == sums(self.tree).length {
             return None;
         }
-        let found = find(self.tree, offset);
-        Some(Spot {
-            first: found.item.piece,
-            skip: found.inner,
-        })
+        Some(self.spot_at(offset))
     }
 }
 

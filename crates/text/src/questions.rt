@@ -5,6 +5,7 @@ ghost use Rattle.measure.specs.Totals.{total};
 ghost use Rattle.ledger.specs.Answers.{Shallow};
 ghost use Rattle.ledger.specs.Places.{pieces_of, stretch};
 ghost use Rattle.ledger.specs.declared.words.Source.TheVariants.{Added};
+ghost use Rattle.nodes.specs.Trees.{long};
 ghost use Rattle.reading.specs.LineParts.{line_found, part};
 ghost use Rattle.text.specs.Texts.{added_of, original_of, text_places, written};
 
@@ -18,11 +19,11 @@ use reading::{Counter, Reader};
 use seeking::depth;
 
 impl<'o, E: Element, T: Measure<E>> Text<'o, E, T> {
-    // The text, to be read.
+    // The text to be read.
     fn reader(&self) -> Reader<'_, E, T>
-        ensures original { result.sources.original.now ≡ original_of self.now }
-        ensures added { result.sources.added.now ≡ added_of self.now }
+        ensures sources { (result.sources.original.now ≡ original_of self.now) × (result.sources.added.now ≡ added_of self.now) }
         ensures tree { result.tree.now ≡ self.now.tree.tree }
+        ensures long { long result.tree.now ≡ length (text_places self.now) }
     {
         Reader {
             sources: Sources {
@@ -33,9 +34,10 @@ impl<'o, E: Element, T: Measure<E>> Text<'o, E, T> {
         }
     }
 
-    // The pieces of the text, to be counted.
+    // The text to be counted.
     fn counter(&self) -> Counter<'_, T>
-        ensures { result.tree.now ≡ self.now.tree.tree }
+        ensures tree { result.tree.now ≡ self.now.tree.tree }
+        ensures long { long result.tree.now ≡ length (text_places self.now) }
     {
         Counter {
             tree: &self.tree.tree,
