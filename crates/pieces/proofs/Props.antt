@@ -1,5 +1,5 @@
 -- What stands of a tree of pieces stands in one way only: any two proofs of it are equal. Assumes nothing.
-use Rattle.std.proofs.Common.{ℕ, ◌+◌, false, List, [], ◌∷◌}
+use Rattle.std.proofs.Common.{ℕ, false, List, [], ◌∷◌}
 use mathlib.Core.Bool.{Bool-set}
 use mathlib.Core.HLevel.{Unit-prop}
 use mathlib.Core.Logic.{∥∥₁_elim}

@@ -219,8 +219,7 @@ fn find_plainly<F: Fn(Item<usize, Fingerprint>) -> usize>(
 }
 
 // Whether a random offset, and the break of a random number, are found where the list has them.
-fn found(tree: &Pieces, numbers: &[usize], random: &mut Random) -> bool
-{
+fn found(tree: &Pieces, numbers: &[usize], random: &mut Random) -> bool {
     let all = sums(&tree.tree);
     if all.length == 0 || all.breaks == 0 {
         return false;
@@ -234,8 +233,7 @@ fn found(tree: &Pieces, numbers: &[usize], random: &mut Random) -> bool
 }
 
 // How many of a thousand random offsets and breaks are found.
-fn founds(tree: &Pieces, numbers: &[usize], random: &mut Random) -> usize
-{
+fn founds(tree: &Pieces, numbers: &[usize], random: &mut Random) -> usize {
     let finds = |_seek: &usize| found(tree, numbers, random);
     (0..SEEKS).filter(finds).count()
 }
@@ -259,7 +257,10 @@ fn main(rt: HostRuntime) -> io::Result<()> {
         "{pieces} pieces, {} elements, {} breaks",
         all.length, all.breaks
     )?;
-    println!(rt; "order agrees: {}", agrees(&trial.tree.tree, &trial.numbers))?;
+    println!(rt;
+        "order agrees: {}",
+        agrees(&trial.tree.tree, &trial.numbers)
+    )?;
     println!(rt; "sums agree: {}", sums_agree(&trial.tree, &trial.numbers))?;
     let deep = depth(&trial.tree.tree);
     println!(rt; "depth {deep}, within the bound: {}", bounded(deep, pieces))?;
