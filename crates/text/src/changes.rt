@@ -57,6 +57,7 @@ impl<'o, E: Element, T: Measure<E>> Text<'o, E, T> {
 
     // Removes the `count` elements behind the first `offset`, and pushes the pieces of this part onto kept runs, which have
     // room for them.
+    // Beside `remove`, which it follows but for one call: a closure for that call would need its effect on the stock in clauses.
     pub fn remove_kept(&mut self, offset: usize, count: usize, runs: &mut Vec<Piece>)
         requires some { 0 < count }
         requires within { offset + count ≤ length (text_places self.old) }

@@ -86,7 +86,6 @@ impl<'o, E: Element, T: Measure<E>> Text<'o, E, T> {
     // The number of pieces once `count` elements of the added source, from `start` on, stand behind the first `offset`.
     pub fn pieces_inserted(&self, offset: usize, start: usize, count: usize) -> usize
         requires some { 0 < count }
-        requires fits { start + count < 2 ^ 64 }
         requires within { offset ≤ length (text_places self.now) }
         ensures { result ≡ length (pieces_of (take offset (text_places self.now) ++ (stretch Added start count ++ drop offset (text_places self.now)))) }
     {

@@ -32,6 +32,7 @@ impl<'o, E: Element, T: Measure<E>> Text<'o, E, T> {
 }
 
 // Elements at the end of a vector that has room for them.
+// One by one: the library's methods that take a slice may allocate.
 fn push_all<E: Copy>(items: &mut Vec<E>, new: &[E])
     requires room { vec_len items.old + length new.now ≤ vec_capacity items.old }
     ensures items { items.new.items ≡ items.old.items ++ new.now }
