@@ -69,7 +69,6 @@ fn whole_tree<E: Element, T: Measure<E>>(
     stock: &mut Vec<Box<Node<Place, T>>>,
 ) -> PieceTree<Place, T>
     requires one { 0 < length sources.original.now → 0 < vec_len stock.old }
-    requires short { length sources.original.now ≤ 2 ^ 24 }
     ensures places { places result.tree ≡ stretch Original 0 (length sources.entry.original.now) }
     ensures long { long result.tree ≡ length sources.entry.original.now }
     ensures few { (length (items result.tree) ≤ 1) × ((length sources.entry.original.now ≡ 0 → length (items result.tree) ≡ 0)) }
