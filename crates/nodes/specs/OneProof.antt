@@ -1,5 +1,6 @@
 -- What a tree carries and how it is balanced has one proof at most. Assumes nothing.
 use Rattle.std.proofs.Common.{◌+◌, false}
+use Rattle.std.specs.Coded.{Coded, Coded-set}
 use mathlib.Core.Bool.{Bool-set}
 use mathlib.Core.HLevel.{Unit-prop}
 use native.Mathlib.Bridge.{le_prop}
@@ -8,7 +9,7 @@ use Rattle.nodes.specs.declared.types.Colour.{Colour}
 use Rattle.nodes.specs.declared.types.Colour.TheVariants.{Red, Black}
 use Rattle.nodes.specs.declared.types.Tree.{Tree}
 use Rattle.nodes.specs.declared.types.Tree.TheVariants.{Empty, Place'}
-use Rattle.nodes.specs.Trees.{long, broken, placed, red, blacks, Balanced, Calm, Legal, Weighed}
+use Rattle.nodes.specs.Trees.{long, broken, placed, whole, red, blacks, Balanced, Calm, Legal, Summed, Weighed}
 
 module _ {P T : Type 0} where
   pub weighed_prop : (tree : Tree P T) → IsProp (Weighed tree)
@@ -40,3 +41,14 @@ module _ {P T : Type 0} where
 
   pub balanced_prop : (tree : Tree P T) → IsProp (Balanced tree)
   balanced_prop tree x y = λ i. (Bool-set (red tree) false x.0 y.0 i, legal_prop tree x.1 y.1 i)
+
+-- an equation of totals has one proof at most, as all values of a type of the program tell apart
+module _ {T : Type 0} (code : Coded T) where
+  pub summed_prop : {P : Type 0} (neutral : T) (joined : T → T → T) (tree : Tree P T) → IsProp (Summed neutral joined tree)
+  summed_prop neutral joined Empty x y = Unit-prop x y
+  summed_prop neutral joined (Place' p colour left item right sums) x y =
+      λ i. (
+        Coded-set code sums.total (joined (joined (whole neutral left) item.total) (whole neutral right)) x.0 y.0 i,
+        summed_prop neutral joined left x.1 y.1 i,
+        summed_prop neutral joined right x.2 y.2 i,
+      )

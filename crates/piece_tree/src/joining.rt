@@ -12,7 +12,6 @@ impl<P: Copy, T: Total> PieceTree<P, T> {
     pub fn empty() -> Self
         ensures items { items result.tree ≡ [] }
         ensures long { long result.tree ≡ 0 }
-        ensures summed { Summed T.neutral T.joined result.tree }
     {
         PieceTree {
             tree: Tree::Empty,
@@ -27,7 +26,6 @@ impl<P: Copy, T: Total> PieceTree<P, T> {
         requires fits { place.value.item.length < 2 ^ 64 }
         ensures items { items result.tree ≡ place.value.item ∷ [] }
         ensures long { long result.tree ≡ place.value.item.length }
-        ensures summed { Summed T.neutral T.joined result.tree }
     {
         Self::empty().push_back(place)
     }
@@ -39,7 +37,6 @@ impl<P: Copy, T: Total> PieceTree<P, T> {
         requires fits { place.value.item.length + long self.tree < 2 ^ 64 }
         ensures items { items result.tree ≡ place.value.item ∷ items self.tree }
         ensures long { long result.tree ≡ place.value.item.length + long self.tree }
-        ensures summed { Summed T.neutral T.joined self.tree → Summed T.neutral T.joined result.tree }
     {
         Self::empty().join(place, self)
     }
@@ -51,7 +48,6 @@ impl<P: Copy, T: Total> PieceTree<P, T> {
         requires fits { long self.tree + place.value.item.length < 2 ^ 64 }
         ensures items { items result.tree ≡ items self.tree ++ place.value.item ∷ [] }
         ensures long { long result.tree ≡ long self.tree + place.value.item.length }
-        ensures summed { Summed T.neutral T.joined self.tree → Summed T.neutral T.joined result.tree }
     {
         self.join(place, Self::empty())
     }
@@ -61,10 +57,10 @@ impl<P: Copy, T: Total> PieceTree<P, T> {
         requires weighed { Weighed tree }
         requires fits { long tree < 2 ^ 64 }
         requires tall { height ≡ blacks tree }
+        requires summed { Summed T.neutral T.joined tree }
         requires leans { (Legal tree) ⊎ ((LeansRight tree) ⊎ (LeansLeft tree)) }
         ensures items { items result.tree ≡ items tree }
         ensures long { long result.tree ≡ long tree }
-        ensures summed { Summed T.neutral T.joined tree → Summed T.neutral T.joined result.tree }
     {
         let height = if is_red(&tree) { height + 1 } else { height };
         PieceTree {
@@ -80,7 +76,6 @@ impl<P: Copy, T: Total> PieceTree<P, T> {
         requires fits { long self.tree + place.value.item.length + long right.tree < 2 ^ 64 }
         ensures items { items result.tree ≡ items self.tree ++ place.value.item ∷ items right.tree }
         ensures long { long result.tree ≡ long self.tree + place.value.item.length + long right.tree }
-        ensures summed { Summed T.neutral T.joined self.tree → Summed T.neutral T.joined right.tree → Summed T.neutral T.joined result.tree }
     {
         if self.height >= right.height {
             let height = self.height;

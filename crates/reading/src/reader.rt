@@ -11,6 +11,7 @@ use nodes::Tree;
 use pieces::Sources;
 
 // A tree of pieces, each of which lies in its source.
+// That it carries what its elements have is a premise of the questions that need it: an element is read of any tree.
 #[derive(Drop)]
 pub struct Reader<'t, E, T> {
     pub sources: Sources<'t, E>,

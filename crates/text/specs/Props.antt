@@ -5,20 +5,11 @@ use Rattle.ledger.specs.declared.words.Place.{Place}
 use Rattle.measure.specs.Totals.{total}
 use Rattle.nodes.specs.declared.types.Item.{Item}
 use Rattle.nodes.specs.declared.types.Tree.{Tree}
-use Rattle.nodes.specs.declared.types.Tree.TheVariants.{Empty, Place'}
-use Rattle.nodes.specs.Trees.{items, whole, Summed}
+use Rattle.nodes.specs.OneProof.{summed_prop}
+use Rattle.nodes.specs.Trees.{items}
 use Rattle.pieces.specs.Faithful.{count_breaks, source_part, AllCarry, Faithful}
 
 module _ {T : Type 0} (code : Coded T) where
-  summed_prop : {P : Type 0} (neutral : T) (joined : T → T → T) (tree : Tree P T) → IsProp (Summed neutral joined tree)
-  summed_prop neutral joined Empty x y = Unit-prop x y
-  summed_prop neutral joined (Place' p colour left item right sums) x y =
-      λ i. (
-        Coded-set code sums.total (joined (joined (whole neutral left) item.total) (whole neutral right)) x.0 y.0 i,
-        summed_prop neutral joined left x.1 y.1 i,
-        summed_prop neutral joined right x.2 y.2 i,
-      )
-
   module _ {E : Type 0} (breaks : E → Bool) (neutral : T) (value : E → T) (joined : T → T → T) (original added : List E) where
     all_carry_prop : (is : List (Item Place T)) → IsProp (AllCarry breaks neutral value joined original added is)
     all_carry_prop [] = Unit-prop
@@ -30,4 +21,4 @@ module _ {T : Type 0} (code : Coded T) where
         (all_carry_prop more)
 
     pub faithful_prop : (tree : Tree Place T) → IsProp (Faithful breaks neutral value joined original added tree)
-    faithful_prop tree = ×_prop (summed_prop neutral joined tree) (all_carry_prop (items tree))
+    faithful_prop tree = ×_prop (summed_prop code neutral joined tree) (all_carry_prop (items tree))
