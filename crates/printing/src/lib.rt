@@ -1,5 +1,5 @@
-// Numbers and short lines as bytes, printed on a page, which is memory of the caller's. Nothing is allocated. What does not
-// fit is denied, and the page stays as it was.
+// Numbers and short lines as bytes, printed on a page, which is memory of the caller's. Nothing is allocated. What does not fit is
+// denied, and the page stays as it was.
 #![tactic(auto)]
 
 ghost use Rattle.std.specs.Prelude.{◌≡◌, ◌≤◌, length, decimal};
@@ -85,8 +85,8 @@ pub fn decimal_width(n: u64) -> usize
     buffer.format(n).len()
 }
 
-// The line of a denial: a question mark, its number in decimal, the end of the line.
-// Lines are pushed together: no clause of std says that `write!` succeeds where there is room.
+// The line of a denial: a question mark, its number in decimal, the end of the line. Lines are pushed together, since no clause of
+// std says that `write!` succeeds where there is room.
 pub fn denial_line(number: u8) -> Line
     ensures { result.bytes ≡ denial_line number }
 {

@@ -27,12 +27,11 @@ pub fn is_dot_line(line: &[u8]) -> bool
     matches!(line, [mark, stop] if char::from(*mark) == '.' && char::from(*stop) == '\n')
 }
 
-// What stands before the first dot line, and what follows it.
-// Lines are taken off the front by hand: an iterator of lines does not answer what follows one.
+// What stands before the first dot line, and what follows it. Lines are taken off the front by hand: no iterator of lines answers
+// what follows one.
 #[tactic(auto, using(crate::proofs::Dots::go_on))]
 pub fn split_at_dot_line(bytes: &[u8]) -> Option<(&[u8], &[u8])>
-    ensures exact { MatchOption result (split_at_dot bytes.now ≡ None)
-        (λ p. split_at_dot bytes.now ≡ Some (p.0.now, p.1.now)) }
+    ensures exact { MatchOption result (split_at_dot bytes.now ≡ None) (λ p. split_at_dot bytes.now ≡ Some (p.0.now, p.1.now)) }
     ensures first { MatchOption result (NoDot bytes.now) (λ p. FirstDot bytes.now p.0.now p.1.now) }
 {
     let mut rest = bytes;

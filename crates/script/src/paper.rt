@@ -22,9 +22,7 @@ fn ends_line(bytes: &[u8]) -> bool
 }
 
 pub fn read_paper(input: &[u8]) -> Result<Paper<'_>, SessionDenial>
-    ensures exact { MatchResult result
-        (λ p. paper_of input.now ≡ Ok (p.set_text.now, p.script.now))
-        (λ d. paper_of input.now ≡ Err d) }
+    ensures exact { MatchResult result (λ p. paper_of input.now ≡ Ok (p.set_text.now, p.script.now)) (λ d. paper_of input.now ≡ Err d) }
     ensures first { IfOk result (λ p. FirstDot input.now p.set_text.now p.script.now) }
 {
     if input.len() > INPUT_LIMIT {

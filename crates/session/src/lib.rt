@@ -24,8 +24,7 @@ pub fn answer_paper<E: Element, R: Read + Drop, W: Write>(
     input: R,
     output: &mut W,
 ) -> anyhow::Result<()>
-    ensures { OnOk result (IfSome (R.remaining input)
-        (λ paper. Appends (W.contents output.old) (W.contents output.new) (report E.made E.shown E.typist paper))) }
+    ensures { OnOk result (IfSome (R.remaining input) (λ paper. Appends (W.contents output.old) (W.contents output.new) (report E.made E.shown E.typist paper))) }
 {
     let mut paper = Vec::new(alloc);
     // One byte above the limit is enough to see that an input is too long.
