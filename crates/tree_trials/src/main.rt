@@ -2,7 +2,7 @@
 // held against a plain list of the pieces.
 #![tactic(auto)]
 
-ghost use Rattle.std.specs.Prelude.{◌≡◌, ◌+◌, ◌^◌, ◌<◌, ◌≤◌};
+ghost use Rattle.std.specs.Prelude.{◌<◌, ◌≤◌};
 ghost use Rattle.nodes.specs.Trees.{long, Fair};
 
 use measure::{Fingerprint, Total, fold};
@@ -21,8 +21,6 @@ const SEEKS: usize = 1_000;
 
 // Keeps lengths far below what a usize holds.
 const LONGEST: usize = 1 << 40;
-
-type Places = Tree<usize, Fingerprint>;
 
 type Pieces = PieceTree<usize, Fingerprint>;
 
@@ -63,26 +61,18 @@ fn item(number: usize) -> Item<usize, Fingerprint>
 }
 
 // All pieces in the order of their numbers.
-fn build(stock: &mut Stock) -> Pieces
-    ensures short { long result.tree ≤ 2 ^ 40 + 7 }
-{
-    let mut tree = Pieces::empty();
-    for number in 0..PIECES {
-        tree = append(tree, stock, number);
-    }
-    tree
+fn build(stock: &mut Stock) -> Pieces {
+    (0..PIECES).fold(PieceTree::empty(), |tree, number| {
+        append(tree, stock, number)
+    })
 }
 
 // One more piece at the end, where the stock has a place for it.
-fn append(tree: Pieces, stock: &mut Stock, number: usize) -> Pieces
-    requires short { long tree.tree ≤ 2 ^ 40 + 7 }
-    ensures short { long result.tree ≤ 2 ^ 40 + 7 }
-{
+fn append(tree: Pieces, stock: &mut Stock, number: usize) -> Pieces {
     if stock.is_empty() || tree.len() > LONGEST {
         return tree;
     }
-    let place = draw(stock, item(number));
-    tree.push_back(place)
+    tree.push_back(draw(stock, item(number)))
 }
 
 // Where the piece at a cut goes, when what lies after it is put before what lies in front of it.
@@ -101,9 +91,7 @@ struct Turned {
 
 // Cuts a tree at the piece that holds the offset, and turns its parts.
 fn turn_tree(turn: Turn, tree: Pieces, offset: usize) -> Turned
-    requires within { offset < long tree.tree }
-    requires short { long tree.tree ≤ 2 ^ 40 + 7 }
-    ensures same { long result.tree.tree ≡ long tree.tree }
+    requires { offset < long tree.tree }
 {
     let part = tree.split(offset);
     let before = sums(&part.left.tree).pieces;
@@ -133,10 +121,7 @@ struct Trial {
 }
 
 // One turn at a random offset, of both.
-fn step(trial: Trial, random: &mut Random) -> Trial
-    requires short { long trial.tree.tree ≤ 2 ^ 40 + 7 }
-    ensures short { long result.tree.tree ≤ 2 ^ 40 + 7 }
-{
+fn step(trial: Trial, random: &mut Random) -> Trial {
     let Trial { tree, mut numbers } = trial;
     let length = tree.len();
     if length == 0 {
@@ -157,19 +142,12 @@ fn step(trial: Trial, random: &mut Random) -> Trial
 }
 
 // Many turns.
-fn turns(trial: Trial, random: &mut Random) -> Trial
-    requires short { long trial.tree.tree ≤ 2 ^ 40 + 7 }
-    ensures short { long result.tree.tree ≤ 2 ^ 40 + 7 }
-{
-    let mut trial = trial;
-    for _round in 0..ROUNDS {
-        trial = step(trial, random);
-    }
-    trial
+fn turns(trial: Trial, random: &mut Random) -> Trial {
+    (0..ROUNDS).fold(trial, |trial, _round| step(trial, random))
 }
 
 // Whether the pieces of a tree are those of the list, in its order.
-fn agrees(tree: &Places, numbers: &[usize]) -> bool {
+fn agrees(tree: &Tree<usize, Fingerprint>, numbers: &[usize]) -> bool {
     let Tree::Place(place) = tree else {
         return numbers.is_empty();
     };
@@ -183,7 +161,7 @@ fn agrees(tree: &Places, numbers: &[usize]) -> bool {
 }
 
 // Whether the sums of a tree are those of the list.
-fn sums_agree(tree: &Pieces, numbers: &[usize]) -> bool {
+fn sums_agree(tree: &Tree<usize, Fingerprint>, numbers: &[usize]) -> bool {
     let plain = numbers
         .iter()
         .fold(Sums::none(), |all: Sums<Fingerprint>, number| {
@@ -195,7 +173,7 @@ fn sums_agree(tree: &Pieces, numbers: &[usize]) -> bool {
                 total: all.total.join(one.total),
             }
         });
-    sums(&tree.tree) == plain
+    sums(tree) == plain
 }
 
 // Where the list has the element of this offset, or the break of this number, by what is counted of a piece: how many pieces
@@ -219,29 +197,38 @@ fn find_plainly<F: Fn(Item<usize, Fingerprint>) -> usize>(
 }
 
 // Whether a random offset, and the break of a random number, are found where the list has them.
-fn found(tree: &Pieces, numbers: &[usize], random: &mut Random) -> bool {
-    let all = sums(&tree.tree);
+fn found(pieces: &Pieces, numbers: &[usize], random: &mut Random) -> bool {
+    let tree = &pieces.tree;
+    let all = sums(tree);
     if all.length == 0 || all.breaks == 0 {
         return false;
     }
     let offset = random.below(all.length);
-    let at = find(&tree.tree, offset);
+    let at = find(tree, offset);
     let number = random.below(all.breaks);
-    let broken = find_break(&tree.tree, number);
+    let broken = find_break(tree, number);
     find_plainly(numbers, offset, |item| item.length) == (at.before.pieces, at.inner)
         && find_plainly(numbers, number, |item| item.breaks) == (broken.before.pieces, broken.inner)
 }
 
 // How many of a thousand random offsets and breaks are found.
-fn founds(tree: &Pieces, numbers: &[usize], random: &mut Random) -> usize {
-    let finds = |_seek: &usize| found(tree, numbers, random);
-    (0..SEEKS).filter(finds).count()
+fn founds(pieces: &Pieces, numbers: &[usize], random: &mut Random) -> usize {
+    (0..SEEKS)
+        .filter(|_seek| found(pieces, numbers, random))
+        .count()
 }
 
 // Whether a depth is within the bound for so many pieces.
 fn bounded(depth: usize, pieces: usize) -> bool {
     let half = depth.div_ceil(2);
     half < 63 && (1usize << half) <= pieces.saturating_add(1)
+}
+
+// All places of a tree go back to the stock, where it has room for them.
+fn give_back(tree: Pieces, stock: &mut Stock) {
+    if summary(&tree.tree).pieces <= stock.capacity() - stock.len() {
+        recycle(tree.tree, stock);
+    }
 }
 
 fn main(rt: HostRuntime) -> io::Result<()> {
@@ -251,26 +238,21 @@ fn main(rt: HostRuntime) -> io::Result<()> {
     let tree = build(&mut stock);
     let numbers = (0..PIECES).collect(alloc)?;
     let trial = turns(Trial { tree, numbers }, &mut random);
-    let all = summary(&trial.tree.tree);
+    let tree = &trial.tree.tree;
+    let all = summary(tree);
     let pieces = all.pieces;
     println!(rt;
         "{pieces} pieces, {} elements, {} breaks",
         all.length, all.breaks
     )?;
-    println!(rt;
-        "order agrees: {}",
-        agrees(&trial.tree.tree, &trial.numbers)
-    )?;
-    println!(rt; "sums agree: {}", sums_agree(&trial.tree, &trial.numbers))?;
-    let deep = depth(&trial.tree.tree);
+    println!(rt; "order agrees: {}", agrees(tree, &trial.numbers))?;
+    println!(rt; "sums agree: {}", sums_agree(tree, &trial.numbers))?;
+    let deep = depth(tree);
     println!(rt; "depth {deep}, within the bound: {}", bounded(deep, pieces))?;
     let count = founds(&trial.tree, &trial.numbers, &mut random);
     println!(rt; "{count} of {SEEKS} offsets and breaks found")?;
     let left = stock.len();
-    let places = trial.tree.tree;
-    if pieces <= stock.capacity() - left {
-        recycle(places, &mut stock);
-    }
+    give_back(trial.tree, &mut stock);
     println!(rt;
         "{left} places left, {} after all were given back",
         stock.len()
