@@ -29,7 +29,7 @@ carried_inside ps ms c p q h = subst Inside (sym (same_content ps ms c p q)) h
 module _ {E T : Type 0} {e : Elements E} {m : Measures T E} {total : Totals T} where
   -- a text is not too long
   pub text_short : (t : Text E T e m total) → length (text_places t) ≤ 2 ^ 24
-  text_short t = omega (arith, long_places t.tree.tree t.standing.weighed, t.short)
+  text_short t = omega (arith, long_places t.tree.tree t.tree.weighed, t.short)
 
   module _ (s : Sheet E T e m total) where
     -- the marks lie in the text

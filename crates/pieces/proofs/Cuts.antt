@@ -7,7 +7,7 @@ use Rattle.nodes.specs.declared.types.Tree.{Tree}
 use Rattle.nodes.specs.Trees.{items, long, Balanced, Weighed}
 use Rattle.pieces.specs.Faithful.{AllCarry}
 use Rattle.pieces.specs.Halves.{Halves}
-use Rattle.pieces.specs.Spread.{places, spread, Apart, Inside, size_of, Standing}
+use Rattle.pieces.specs.Spread.{places, spread, Apart, Inside, size_of, Lying}
 use Rattle.pieces.proofs.Spreads.{stretch_append, spread_append, places_length, apart_front, apart_back, apart_last, apart_first, inside_append, inside_front, inside_back, carry_append, carry_front, carry_back}
 
 module _ {T : Type 0} where
@@ -27,24 +27,20 @@ module _ {T : Type 0} where
       ap (λ l. places left ++ spread l) is ∙ sym (spread_append (items left) rest) ∙ ap spread all
 
   -- where the pieces of a tree are the first ones of a standing tree, or the last ones, it stands too
-  pub standing_front : {original added : ℕ} (left tree : Tree Place T) (rest : List (Item Place T)) → Standing original added tree → items left ++ rest ≡ items tree → Weighed left → Balanced left → Standing original added left
-  standing_front {original} {added} left tree rest s all w b = record {
-    weighed = w;
-    balanced = b;
+  pub standing_front : {original added : ℕ} (left tree : Tree Place T) (rest : List (Item Place T)) → Lying original added tree → items left ++ rest ≡ items tree → Lying original added left
+  standing_front {original} {added} left tree rest s all = record {
     apart = apart_front (items left) rest (subst Apart (sym all) s.apart);
     inside = inside_front original added (items left) rest (subst (Inside original added) (sym all) s.inside);
   }
 
-  pub standing_back : {original added : ℕ} (back tree : Tree Place T) (front rest : List (Item Place T)) → Standing original added tree → front ++ rest ≡ items tree → items back ≡ rest → Weighed back → Balanced back → Standing original added back
-  standing_back {original} {added} back tree front rest s all is w b = record {
-    weighed = w;
-    balanced = b;
+  pub standing_back : {original added : ℕ} (back tree : Tree Place T) (front rest : List (Item Place T)) → Lying original added tree → front ++ rest ≡ items tree → items back ≡ rest → Lying original added back
+  standing_back {original} {added} back tree front rest s all is = record {
     apart = subst Apart (sym is) (apart_back front rest (subst Apart (sym all) s.apart));
     inside = subst (Inside original added) (sym is) (inside_back original added front rest (subst (Inside original added) (sym all) s.inside));
   }
 
   -- the piece at the cut lies in its source
-  pub inside_at : {original added : ℕ} (tree : Tree Place T) (front back : List (Item Place T)) (i : Item Place T) → Standing original added tree → front ++ i ∷ back ≡ items tree → i.piece.index + i.length ≤ size_of original added i.piece.source
+  pub inside_at : {original added : ℕ} (tree : Tree Place T) (front back : List (Item Place T)) (i : Item Place T) → Lying original added tree → front ++ i ∷ back ≡ items tree → i.piece.index + i.length ≤ size_of original added i.piece.source
   inside_at {original} {added} tree front back i s all =
       (inside_back original added front (i ∷ back) (subst (Inside original added) (sym all) s.inside)).0
 

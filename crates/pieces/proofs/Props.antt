@@ -2,14 +2,12 @@
 use Rattle.std.proofs.Common.{ℕ, false, List, [], ◌∷◌}
 use mathlib.Core.Bool.{Bool-set}
 use mathlib.Core.HLevel.{Unit-prop}
-use mathlib.Core.Logic.{∥∥₁_elim}
 use native.Mathlib.Bridge.{le_prop}
 use Rattle.ledger.specs.declared.words.Place.{Place}
 use Rattle.nodes.specs.declared.types.Item.{Item}
 use Rattle.nodes.specs.declared.types.Tree.{Tree}
 use Rattle.nodes.specs.Trees.{items}
-use Rattle.nodes.specs.OneProof.{balanced_prop, weighed_prop}
-use Rattle.pieces.specs.Spread.{touches, Apart, Inside, Standing, StartsApart}
+use Rattle.pieces.specs.Spread.{touches, Apart, Inside, Lying, StartsApart}
 
 module _ {T : Type 0} where
   starts_apart_prop : (item : Item Place T) (more : List (Item Place T)) → IsProp (StartsApart item more)
@@ -25,16 +23,9 @@ module _ {T : Type 0} where
   inside_prop original added (item ∷ more) x y =
       λ i. (le_prop x.0 y.0 i, inside_prop original added more x.1 y.1 i)
 
-  pub standing_prop : (original added : ℕ) (tree : Tree Place T) → IsProp (Standing original added tree)
-  standing_prop original added tree x y =
+  pub lying_prop : (original added : ℕ) (tree : Tree Place T) → IsProp (Lying original added tree)
+  lying_prop original added tree x y =
       λ i. record {
-        weighed = weighed_prop tree x.weighed y.weighed i;
-        balanced = balanced_prop tree x.balanced y.balanced i;
         apart = apart_prop (items tree) x.apart y.apart i;
         inside = inside_prop original added (items tree) x.inside y.inside i;
       }
-
-  -- so what is known behind a truncation is known
-  pub untruncated : {original added : ℕ} {tree : Tree Place T} → ∥ Standing original added tree ∥₁ → Standing original added tree
-  untruncated {original = original} {added = added} {tree = tree} known =
-      ∥∥₁_elim known (standing_prop original added tree) (λ standing. standing)

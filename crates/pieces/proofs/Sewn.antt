@@ -12,7 +12,7 @@ use Rattle.nodes.specs.declared.types.Item.{Item}
 use Rattle.nodes.specs.declared.types.Tree.{Tree}
 use Rattle.nodes.specs.Trees.{items, Balanced, Summed, Weighed}
 use Rattle.pieces.specs.Faithful.{count_breaks, source_part, AllCarry, Carries, Faithful}
-use Rattle.pieces.specs.Spread.{merged, places, sewn, sewn_from, sewn_on, size_of, spread, touches, Apart, Inside, Standing, StartsApart}
+use Rattle.pieces.specs.Spread.{merged, places, sewn, sewn_from, sewn_on, size_of, spread, touches, Apart, Inside, Lying, StartsApart}
 use Rattle.pieces.proofs.Breaks.{count_append}
 use Rattle.pieces.proofs.SourceParts.{part_append}
 use Rattle.pieces.proofs.Spreads.{stretch_append}
@@ -149,19 +149,15 @@ module _ {T : Type 0} (joined : T → T → T) where
         subst (λ (p : Place). p.index + i.length ≤ size_of original added p.source) (sym piece_is) (omega (arith, length_is, within))
 
     -- a tree of one piece
-    pub standing_one : (tree : Tree Place T) (i : Item Place T) → items tree ≡ i ∷ [] → Weighed tree → Balanced tree → i.piece.index + i.length ≤ size_of original added i.piece.source → Standing original added tree
-    standing_one tree i is weighed balanced within = record {
-      weighed = weighed;
-      balanced = balanced;
+    pub standing_one : (tree : Tree Place T) (i : Item Place T) → items tree ≡ i ∷ [] → i.piece.index + i.length ≤ size_of original added i.piece.source → Lying original added tree
+    standing_one tree i is within = record {
       apart = subst Apart (sym is) (tt, tt);
       inside = subst (Inside original added) (sym is) (within, tt);
     }
 
     -- two trees sewn together
-    pub standing_sewn : (left right all : Tree Place T) → items all ≡ sewn joined (items left) (items right) → Weighed all → Balanced all → Standing original added left → Standing original added right → Standing original added all
-    standing_sewn left right all is weighed balanced l r = record {
-      weighed = weighed;
-      balanced = balanced;
+    pub standing_sewn : (left right all : Tree Place T) → items all ≡ sewn joined (items left) (items right) → Lying original added left → Lying original added right → Lying original added all
+    standing_sewn left right all is l r = record {
       apart = subst Apart (sym is) (apart_sewn (items left) (items right) l.apart r.apart);
       inside = subst (Inside original added) (sym is) (inside_sewn (items left) (items right) l.inside r.inside);
     }

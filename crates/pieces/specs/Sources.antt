@@ -5,7 +5,7 @@ use Rattle.nodes.specs.declared.types.Item.{Item}
 use Rattle.nodes.specs.declared.types.Tree.{Tree}
 use Rattle.pieces.specs.declared.parts.Sources.{Sources}
 use Rattle.pieces.specs.Faithful.{elements, source_part, Carries, Faithful}
-use Rattle.pieces.specs.Spread.{size_of, AllFit, Inside, Standing}
+use Rattle.pieces.specs.Spread.{size_of, AllFit, Inside, Lying}
 use Rattle.ledger.specs.declared.words.Piece.{Piece}
 
 module _ {E : Type 0} (sources : Sources E) where
@@ -31,8 +31,8 @@ module _ {E : Type 0} (sources : Sources E) where
     InsideOf items = Inside (length sources.original.now) (length sources.added.now) items
 
     -- a tree of longest pieces of these sources
-    abbrev pub StandingOver : Tree Place T → Type 0
-    StandingOver tree = Standing (length sources.original.now) (length sources.added.now) tree
+    abbrev pub LyingOver : Tree Place T → Type 0
+    LyingOver tree = Lying (length sources.original.now) (length sources.added.now) tree
 
 module _ {E T : Type 0} (breaks : E → Bool) (neutral : T) (value : E → T) (joined : T → T → T) (sources : Sources E) where
   -- an item carries what its elements in these sources have

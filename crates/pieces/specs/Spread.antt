@@ -7,7 +7,7 @@ use Rattle.ledger.specs.declared.words.Source.{Source}
 use Rattle.ledger.specs.declared.words.Source.TheVariants.{Original, Added}
 use Rattle.nodes.specs.declared.types.Item.{Item}
 use Rattle.nodes.specs.declared.types.Tree.{Tree}
-use Rattle.nodes.specs.Trees.{items, Balanced, Weighed}
+use Rattle.nodes.specs.Trees.{items}
 
 -- the places of some pieces, one after the other
 abbrev pub spelled : List Piece → List Place
@@ -83,9 +83,7 @@ abbrev pub AllFit : ℕ → ℕ → List Piece → Type 0
 AllFit original added [] = Unit {0}
 AllFit original added (run ∷ more) = Fits original added run × AllFit original added more
 
--- A tree of longest pieces over sources of so many elements: red-black, with its lengths, breaks and numbers of pieces.
-pub record Standing {T : Type 0} (original added : ℕ) (tree : Tree Place T) : Type 0 where
-  pub weighed : Weighed tree
-  pub balanced : Balanced tree
+-- a tree of longest pieces over sources of so many elements
+pub record Lying {T : Type 0} (original added : ℕ) (tree : Tree Place T) : Type 0 where
   pub apart : Apart (items tree)
   pub inside : Inside original added (items tree)

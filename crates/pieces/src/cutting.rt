@@ -3,7 +3,7 @@
 ghost use Rattle.std.specs.Prelude.{◌≡◌, ℕ, ◌+◌, ◌^◌, ◌<◌, ◌≤◌, List, [], ◌∷◌, ◌++◌, length, take, drop, vec_len, vec_capacity};
 ghost use Rattle.nodes.specs.Trees.{items, long, Balanced, Bare, Fair, Summed, Weighed};
 ghost use Rattle.pieces.specs.Halves.{Halves};
-ghost use Rattle.pieces.specs.Sources.{FaithfulTo, Has, StandingOver};
+ghost use Rattle.pieces.specs.Sources.{FaithfulTo, Has, LyingOver};
 ghost use Rattle.pieces.specs.Spread.{places};
 
 use crate::parts::Sources;
@@ -22,13 +22,13 @@ pub fn cut<E: Element, T: Measure<E>>(
     offset: usize,
     stock: &mut Vec<Box<Node<Place, T>>>,
 ) -> (PieceTree<Place, T>, PieceTree<Place, T>)
-    requires standing { StandingOver sources tree.tree }
+    requires standing { LyingOver sources tree.tree }
     requires within { offset ≤ long tree.tree }
     requires spare { 0 < vec_len stock.old }
     ensures front { places result.0.tree ≡ take offset (places tree.tree) }
     ensures back { places result.1.tree ≡ drop offset (places tree.tree) }
     ensures long { (long result.0.tree ≡ offset) × (offset + long result.1.tree ≡ long tree.tree) }
-    ensures standing { (StandingOver sources.entry result.0.tree) × (StandingOver sources.entry result.1.tree) }
+    ensures standing { (LyingOver sources.entry result.0.tree) × (LyingOver sources.entry result.1.tree) }
     ensures faithful { FaithfulTo E.breaks T.neutral T.value T.joined sources.entry tree.tree → FaithfulTo E.breaks T.neutral T.value T.joined sources.entry result.0.tree × FaithfulTo E.breaks T.neutral T.value T.joined sources.entry result.1.tree }
     ensures stock { vec_len stock.new + (length (items result.0.tree) + length (items result.1.tree)) ≡ vec_len stock.old + length (items tree.tree) }
     ensures drawn { vec_len stock.old ≤ vec_len stock.new + 1 }

@@ -3,7 +3,7 @@
 ghost use Rattle.std.specs.Prelude.{◌≡◌, ℕ, ◌+◌, ◌^◌, ◌<◌, ◌≤◌, List, [], ◌∷◌, ◌++◌, map, length, take, drop, vec_len, vec_capacity};
 ghost use Rattle.ledger.specs.Places.{stretch};
 ghost use Rattle.nodes.specs.Trees.{items, long};
-ghost use Rattle.pieces.specs.Sources.{FaithfulTo, Has, HasAll, StandingOver};
+ghost use Rattle.pieces.specs.Sources.{FaithfulTo, Has, HasAll, LyingOver};
 ghost use Rattle.pieces.specs.Spread.{piece_of, places, spelled};
 
 use element::Element;
@@ -22,7 +22,7 @@ pub fn insert_run<E: Element, T: Measure<E>>(
     count: usize,
     stock: &mut Vec<Box<Node<Place, T>>>,
 ) -> PieceTree<Place, T>
-    requires standing { StandingOver sources tree.tree }
+    requires standing { LyingOver sources tree.tree }
     requires within { offset ≤ long tree.tree }
     requires fits { long tree.tree + count < 2 ^ 64 }
     requires some { 0 < count }
@@ -31,7 +31,7 @@ pub fn insert_run<E: Element, T: Measure<E>>(
     requires room { vec_len stock.old + length (items tree.tree) ≤ vec_capacity stock.old }
     ensures places { places result.tree ≡ take offset (places tree.tree) ++ (stretch first.source first.index count ++ drop offset (places tree.tree)) }
     ensures long { long result.tree ≡ long tree.tree + count }
-    ensures standing { StandingOver sources.entry result.tree }
+    ensures standing { LyingOver sources.entry result.tree }
     ensures faithful { FaithfulTo E.breaks T.neutral T.value T.joined sources.entry tree.tree → FaithfulTo E.breaks T.neutral T.value T.joined sources.entry result.tree }
     ensures stock { vec_len stock.new + length (items result.tree) ≡ vec_len stock.old + length (items tree.tree) }
     ensures capacity { vec_capacity stock.new ≡ vec_capacity stock.old }
@@ -49,7 +49,7 @@ fn add_run<E: Element, T: Measure<E>>(
     count: usize,
     stock: &mut Vec<Box<Node<Place, T>>>,
 ) -> PieceTree<Place, T>
-    requires standing { StandingOver sources tree.tree }
+    requires standing { LyingOver sources tree.tree }
     requires fits { long tree.tree + count < 2 ^ 64 }
     requires some { 0 < count }
     requires inside { Has sources first count }
@@ -57,7 +57,7 @@ fn add_run<E: Element, T: Measure<E>>(
     requires room { vec_len stock.old + length (items tree.tree) ≤ vec_capacity stock.old }
     ensures places { places result.tree ≡ places tree.tree ++ stretch first.source first.index count }
     ensures long { long result.tree ≡ long tree.tree + count }
-    ensures standing { StandingOver sources.entry result.tree }
+    ensures standing { LyingOver sources.entry result.tree }
     ensures faithful { FaithfulTo E.breaks T.neutral T.value T.joined sources.entry tree.tree → FaithfulTo E.breaks T.neutral T.value T.joined sources.entry result.tree }
     ensures stock { vec_len stock.new + length (items result.tree) ≡ vec_len stock.old + length (items tree.tree) }
     ensures drawn { vec_len stock.old ≤ vec_len stock.new + 1 }
@@ -77,14 +77,14 @@ pub fn take_out<E: Element, T: Measure<E>>(
     count: usize,
     stock: &mut Vec<Box<Node<Place, T>>>,
 ) -> (PieceTree<Place, T>, PieceTree<Place, T>)
-    requires standing { StandingOver sources tree.tree }
+    requires standing { LyingOver sources tree.tree }
     requires within { offset + count ≤ long tree.tree }
     requires spare { 2 ≤ vec_len stock.old }
     requires room { vec_len stock.old + length (items tree.tree) ≤ vec_capacity stock.old }
     ensures rest { places result.0.tree ≡ take offset (places tree.tree) ++ drop (offset + count) (places tree.tree) }
     ensures part { places result.1.tree ≡ take count (drop offset (places tree.tree)) }
     ensures long { (long result.0.tree + count ≡ long tree.tree) × (long result.1.tree ≡ count) }
-    ensures standing { (StandingOver sources.entry result.0.tree) × (StandingOver sources.entry result.1.tree) }
+    ensures standing { (LyingOver sources.entry result.0.tree) × (LyingOver sources.entry result.1.tree) }
     ensures faithful { FaithfulTo E.breaks T.neutral T.value T.joined sources.entry tree.tree → FaithfulTo E.breaks T.neutral T.value T.joined sources.entry result.0.tree }
     ensures stock { vec_len stock.new + (length (items result.0.tree) + length (items result.1.tree)) ≡ vec_len stock.old + length (items tree.tree) }
     ensures capacity { vec_capacity stock.new ≡ vec_capacity stock.old }
@@ -131,7 +131,7 @@ pub fn put_back<E: Element, T: Measure<E>>(
     runs: &[Piece],
     stock: &mut Vec<Box<Node<Place, T>>>,
 ) -> PieceTree<Place, T>
-    requires standing { StandingOver sources tree.tree }
+    requires standing { LyingOver sources tree.tree }
     requires within { offset ≤ long tree.tree }
     requires fits { long tree.tree + length (spelled runs.now) < 2 ^ 64 }
     requires inside { HasAll sources runs.now }
@@ -139,7 +139,7 @@ pub fn put_back<E: Element, T: Measure<E>>(
     requires room { vec_len stock.old + length (items tree.tree) ≤ vec_capacity stock.old }
     ensures places { places result.tree ≡ take offset (places tree.tree) ++ (spelled runs.now ++ drop offset (places tree.tree)) }
     ensures long { long result.tree ≡ long tree.tree + length (spelled runs.now) }
-    ensures standing { StandingOver sources.entry result.tree }
+    ensures standing { LyingOver sources.entry result.tree }
     ensures faithful { FaithfulTo E.breaks T.neutral T.value T.joined sources.entry tree.tree → FaithfulTo E.breaks T.neutral T.value T.joined sources.entry result.tree }
     ensures stock { vec_len stock.new + length (items result.tree) ≡ vec_len stock.old + length (items tree.tree) }
     ensures capacity { vec_capacity stock.new ≡ vec_capacity stock.old }

@@ -6,17 +6,17 @@ use Rattle.ledger.specs.Places.{elements_at, pieces_of, source_list}
 use Rattle.ledger.specs.declared.words.Piece.{Piece}
 use Rattle.ledger.specs.declared.words.Place.{Place}
 use Rattle.nodes.specs.declared.types.Tree.{Tree}
-use Rattle.nodes.specs.Trees.{items}
+use Rattle.nodes.specs.Trees.{items, Weighed}
 use Rattle.pieces.specs.Faithful.{Faithful}
-use Rattle.pieces.specs.Spread.{places, spelled, AllFit, Standing}
+use Rattle.pieces.specs.Spread.{places, spelled, AllFit, Lying}
 use Rattle.pieces.proofs.Elements.{source_long}
 use Rattle.reading.proofs.Counting.{begins, count_cut, count_joint}
 use Rattle.reading.proofs.Longest.{Kept, all_some, count_items, fit_pieces}
 
 -- a standing tree, and an added source, under other names
-pub carried : {E T : Type 0} {original : ℕ} {old new : List E} {tree same : Tree Place T} → new ≡ old → same ≡ tree → Standing original (length old) tree → Standing original (length new) same
+pub carried : {E T : Type 0} {original : ℕ} {old new : List E} {tree same : Tree Place T} → new ≡ old → same ≡ tree → Lying original (length old) tree → Lying original (length new) same
 carried {original = original} {new = new} {tree = tree} added_is tree_is s =
-    subst (Standing original (length new)) (sym tree_is) (subst (λ xs. Standing original (length xs) tree) (sym added_is) s)
+    subst (Lying original (length new)) (sym tree_is) (subst (λ xs. Lying original (length xs) tree) (sym added_is) s)
 
 -- a tree that carries what its elements have, under other names, and one that follows from it
 pub still_faithful : {E T : Type 0} (breaks : E → Bool) (neutral : T) (value : E → T) (joined : T → T → T) (original : List E) {old new : List E} {tree same : Tree Place T} (after : Tree Place T) → new ≡ old → same ≡ tree → Faithful breaks neutral value joined original old tree → (Faithful breaks neutral value joined original new same → Faithful breaks neutral value joined original new after) → Faithful breaks neutral value joined original old after
@@ -25,8 +25,8 @@ still_faithful breaks neutral value joined original {new = new} {tree = tree} af
     subst (λ xs. Faithful breaks neutral value joined original xs after) added_is (follows (subst (Faithful breaks neutral value joined original new) (sym tree_is) had))
 
 -- a standing tree has as many items as its text has pieces
-pub count_of : {T : Type 0} {original added : ℕ} (tree : Tree Place T) → Standing original added tree → length (items tree) ≡ length (pieces_of (places tree))
-count_of tree s = sym (count_items (items tree) (all_some tree s.weighed) s.apart)
+pub count_of : {T : Type 0} {original added : ℕ} (tree : Tree Place T) → Weighed tree → Lying original added tree → length (items tree) ≡ length (pieces_of (places tree))
+count_of tree w s = sym (count_items (items tree) (all_some tree w) s.apart)
 
 -- a text of some places has some pieces
 pub some_pieces : (ps : List Place) → 0 < length ps → 0 < length (pieces_of ps)

@@ -10,9 +10,9 @@ use Rattle.ledger.specs.declared.words.Source.{Source}
 use Rattle.ledger.specs.declared.words.Source.TheVariants.{Original, Added}
 use Rattle.nodes.specs.declared.types.Item.{Item}
 use Rattle.nodes.specs.declared.types.Tree.{Tree}
-use Rattle.nodes.specs.Trees.{items}
+use Rattle.nodes.specs.Trees.{items, Weighed}
 use Rattle.pieces.specs.Faithful.{count_breaks, AllCarry, Faithful}
-use Rattle.pieces.specs.Spread.{places, size_of, spread, Inside, Standing}
+use Rattle.pieces.specs.Spread.{places, size_of, spread, Inside, Lying}
 use Rattle.pieces.proofs.Spreads.{stretch_length}
 use Rattle.pieces.proofs.Elements.{elements_append, elements_stretch}
 use Rattle.reading.proofs.Longest.{all_some, Some}
@@ -31,10 +31,8 @@ module _ {T : Type 0} where
       (omega (arith, h.0, size), inside_more original one other l more h.1)
 
   -- a tree stands over a longer added source too
-  pub standing_more : (original one other : ℕ) → one ≤ other → (tree : Tree Place T) → Standing original one tree → Standing original other tree
+  pub standing_more : (original one other : ℕ) → one ≤ other → (tree : Tree Place T) → Lying original one tree → Lying original other tree
   standing_more original one other l tree s = record {
-    weighed = s.weighed;
-    balanced = s.balanced;
     apart = s.apart;
     inside = inside_more original one other l (items tree) s.inside;
   }
@@ -95,12 +93,10 @@ module _ {E : Type 0} (original added : List E) where
         )
 
     -- a tree with as many elements as places stands over its sources
-    standing_counted : (n : ℕ) (tree : Tree Place T) → Standing (length original) n tree → length (elements_at original added (places tree)) ≡ length (places tree) → Standing (length original) (length added) tree
-    standing_counted n tree s all = record {
-      weighed = s.weighed;
-      balanced = s.balanced;
+    standing_counted : (n : ℕ) (tree : Tree Place T) → Weighed tree → Lying (length original) n tree → length (elements_at original added (places tree)) ≡ length (places tree) → Lying (length original) (length added) tree
+    standing_counted n tree w s all = record {
       apart = s.apart;
-      inside = items_inside (items tree) (all_some tree s.weighed) all;
+      inside = items_inside (items tree) (all_some tree w) all;
     }
 
 module _ {E : Type 0} (original one other extra : List E) (longer : other ≡ one ++ extra) where
@@ -120,7 +116,7 @@ module _ {E : Type 0} (original one other extra : List E) (longer : other ≡ on
         elements_append original other here (spread more) ∙ (λ k. run k ++ same_elements more h.1 k) ∙ sym (elements_append original one here (spread more))
 
     -- pieces of the shorter added source have the same elements in the longer one
-    pub same_written : (tree : Tree Place T) → Standing (length original) (length one) tree → elements_at original other (places tree) ≡ elements_at original one (places tree)
+    pub same_written : (tree : Tree Place T) → Lying (length original) (length one) tree → elements_at original other (places tree) ≡ elements_at original one (places tree)
     same_written tree s = same_elements (items tree) s.inside
 
     module _ (breaks : E → Bool) (neutral : T) (value : E → T) (joined : T → T → T) where
@@ -137,16 +133,16 @@ module _ {E : Type 0} (original one other extra : List E) (longer : other ≡ on
           ((c.0.0 ∙ ap (count_breaks breaks) part, c.0.1 ∙ ap (total neutral value joined) part), carry_less more h.1 c.1)
 
       -- and so what a tree carries of them stands for either
-      pub faithful_more : (tree : Tree Place T) → Standing (length original) (length one) tree → Faithful breaks neutral value joined original one tree → Faithful breaks neutral value joined original other tree
+      pub faithful_more : (tree : Tree Place T) → Lying (length original) (length one) tree → Faithful breaks neutral value joined original one tree → Faithful breaks neutral value joined original other tree
       faithful_more tree s f = (f.0, carry_more (items tree) s.inside f.1)
 
-      pub faithful_less : (tree : Tree Place T) → Standing (length original) (length one) tree → Faithful breaks neutral value joined original other tree → Faithful breaks neutral value joined original one tree
+      pub faithful_less : (tree : Tree Place T) → Lying (length original) (length one) tree → Faithful breaks neutral value joined original other tree → Faithful breaks neutral value joined original one tree
       faithful_less tree s f = (f.0, carry_less (items tree) s.inside f.1)
 
 -- a tree with all its elements in what is left of the added source stands over that
-pub standing_cut : {E T : Type 0} (original before after : List E) (n : ℕ) (tree : Tree Place T) → after ≡ take n before → length (elements_at original (take n before) (places tree)) ≡ length (places tree) → Standing (length original) (length before) tree → Standing (length original) (length after) tree
-standing_cut original before after n tree cut all s =
-    standing_counted original after (length before) tree s (ap (λ xs. length (elements_at original xs (places tree))) cut ∙ all)
+pub standing_cut : {E T : Type 0} (original before after : List E) (n : ℕ) (tree : Tree Place T) → after ≡ take n before → length (elements_at original (take n before) (places tree)) ≡ length (places tree) → Weighed tree → Lying (length original) (length before) tree → Lying (length original) (length after) tree
+standing_cut original before after n tree cut all w s =
+    standing_counted original after (length before) tree w s (ap (λ xs. length (elements_at original xs (places tree))) cut ∙ all)
 
 -- what is left of a list and what was taken away make the list
 pub cut_back : {E : Type 0} (xs short : List E) (n : ℕ) → short ≡ take n xs → xs ≡ short ++ drop n xs

@@ -19,17 +19,17 @@ module _ {E T : Type 0} {e : Elements E} {m : Measures T E} {total : Totals T} (
 
   -- the carried length is that of the places, and of the elements
   pub places_long : length (text_places t) ≡ long t.tree.tree
-  places_long = long_places t.tree.tree t.standing.weighed
+  places_long = long_places t.tree.tree t.tree.weighed
 
   pub written_long : length (written t) ≡ long t.tree.tree
-  written_long = elements_long (original_of t) (added_of t) t.tree.tree t.standing.weighed t.standing.inside
+  written_long = elements_long (original_of t) (added_of t) t.tree.tree t.tree.weighed t.standing.inside
 
   -- the carried number is that of the pieces, and of the tree places
   pub pieces_placed : placed t.tree.tree ≡ length (pieces_of (text_places t))
-  pieces_placed = placed_pieces t.tree.tree t.standing.weighed t.standing.apart
+  pieces_placed = placed_pieces t.tree.tree t.tree.weighed t.standing.apart
 
   pub items_placed : placed t.tree.tree ≡ length (items t.tree.tree)
-  items_placed = placed_is t.tree.tree t.standing.weighed
+  items_placed = placed_is t.tree.tree t.tree.weighed
 
   -- two more than the length is still a machine number
   pub long_fits : long t.tree.tree + 2 < 2 ^ 64

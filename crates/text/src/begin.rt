@@ -3,7 +3,7 @@ ghost use Rattle.std.specs.Prelude.{◌≡◌, ◌+◌, ◌^◌, ◌<◌, ◌≤
 ghost use Rattle.ledger.specs.Places.{stretch};
 ghost use Rattle.ledger.specs.declared.words.Source.TheVariants.{Original};
 ghost use Rattle.nodes.specs.Trees.{items, long};
-ghost use Rattle.pieces.specs.Sources.{FaithfulTo, StandingOver};
+ghost use Rattle.pieces.specs.Sources.{FaithfulTo, LyingOver};
 ghost use Rattle.pieces.specs.Spread.{places};
 ghost use Rattle.text.specs.Texts.{places_owned, text_places};
 
@@ -72,7 +72,7 @@ fn whole_tree<E: Element, T: Measure<E>>(
     ensures places { places result.tree ≡ stretch Original 0 (length sources.entry.original.now) }
     ensures long { long result.tree ≡ length sources.entry.original.now }
     ensures few { (length (items result.tree) ≤ 1) × ((length sources.entry.original.now ≡ 0 → length (items result.tree) ≡ 0)) }
-    ensures standing { StandingOver sources.entry result.tree }
+    ensures standing { LyingOver sources.entry result.tree }
     ensures faithful { FaithfulTo E.breaks T.neutral T.value T.joined sources.entry result.tree }
     ensures stock { vec_len stock.new + length (items result.tree) ≡ vec_len stock.old }
     ensures capacity { vec_capacity stock.new ≡ vec_capacity stock.old }

@@ -4,8 +4,8 @@
 ghost use Rattle.std.specs.Prelude.{◌+◌, ◌^◌, ◌<◌, ◌≤◌, length, vec_len, vec_capacity};
 ghost use Rattle.nodes.specs.Trees.{items, long};
 ghost use Rattle.pieces.specs.Faithful.{Faithful};
-ghost use Rattle.pieces.specs.Spread.{Standing};
-ghost use Rattle.pieces.proofs.Props.{standing_prop};
+ghost use Rattle.pieces.specs.Spread.{Lying};
+ghost use Rattle.pieces.proofs.Props.{lying_prop};
 ghost use Rattle.text.specs.Props.{faithful_prop};
 
 mod begin;
@@ -29,7 +29,7 @@ pub struct Text<'o, E: Element, T: Measure<E>> {
     tree: PieceTree<Place, T>,
     stock: Vec<Box<Node<Place, T>>>,
     limit: usize,
-    ghost standing: { Standing (length original.now) (length added.items) tree.tree } by { standing_prop (length original.now) (length added.items) tree.tree },
+    ghost standing: { Lying (length original.now) (length added.items) tree.tree } by { lying_prop (length original.now) (length added.items) tree.tree },
     ghost measured: { Faithful E.breaks T.neutral T.value T.joined original.now added.items tree.tree } by { faithful_prop T.code E.breaks T.neutral T.value T.joined original.now added.items tree.tree },
     ghost short: { long tree.tree ≤ 2 ^ 24 },
     ghost few: { length (items tree.tree) ≤ limit },

@@ -15,13 +15,13 @@ pub returns-then-offset-len-clause-front : goal.returns-then-offset-len-clause-f
 returns-then-offset-len-clause-front g c =
     let tree = c.args.tree.tree in
     let at : long tree ≡ c.args.offset = omega (arith, c.if-offset-len.true, c.len.ensures) in
-    taken tree tree [] c.args.offset c.requires.standing.weighed at (append-nil (places tree))
+    taken tree tree [] c.args.offset c.args.tree.weighed at (append-nil (places tree))
 
 pub returns-then-offset-len-clause-back : goal.returns-then-offset-len-clause-back
 returns-then-offset-len-clause-back g c =
     let tree = c.args.tree.tree in
     let at : long tree ≡ c.args.offset = omega (arith, c.if-offset-len.true, c.len.ensures) in
-    ap spread c.empty.ensures.items ∙ dropped tree tree [] c.args.offset c.requires.standing.weighed at (append-nil (places tree))
+    ap spread c.empty.ensures.items ∙ dropped tree tree [] c.args.offset c.args.tree.weighed at (append-nil (places tree))
 
 pub returns-then-part-eq0-clause-front : goal.returns-then-part-eq0-clause-front
 returns-then-part-eq0-clause-front g c =
@@ -46,8 +46,8 @@ returns-then-part-eq0-clause-standing g c =
     let rest = part.place.value.item ∷ items part.right.tree in
     let s = c.split-part.ensures in
     let j = c.push_front-back.ensures in (
-      standing_front part.left.tree tree rest c.requires.standing s.items part.left.weighed part.left.balanced,
-      standing_back c.push_front-back.result.tree tree (items part.left.tree) rest c.requires.standing s.items j.items c.push_front-back.result.weighed c.push_front-back.result.balanced,
+      standing_front part.left.tree tree rest c.requires.standing s.items,
+      standing_back c.push_front-back.result.tree tree (items part.left.tree) rest c.requires.standing s.items j.items,
     )
 
 pub returns-then-part-eq0-clause-faithful : goal.returns-then-part-eq0-clause-faithful
@@ -106,8 +106,8 @@ returns-clause-standing g c =
     let p = c.cut_piece.ensures in
     let apart = halves_apart breaks neutral value joined original added left part.place.value.item part.inner right front back p.halves (subst Apart (sym s.items) c.requires.standing.apart) in
     let inside = halves_inside breaks neutral value joined original added (length original) (length added) left part.place.value.item part.inner right front back p.halves (subst (Inside (length original) (length added)) (sym s.items) c.requires.standing.inside) in (
-      record { weighed = c.cut_piece.result.0.weighed; balanced = c.cut_piece.result.0.balanced; apart = apart.0; inside = inside.0 },
-      record { weighed = c.cut_piece.result.1.weighed; balanced = c.cut_piece.result.1.balanced; apart = apart.1; inside = inside.1 },
+      record { apart = apart.0; inside = inside.0 },
+      record { apart = apart.1; inside = inside.1 },
     )
 
 pub returns-clause-faithful : goal.returns-clause-faithful

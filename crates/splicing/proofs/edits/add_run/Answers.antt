@@ -27,7 +27,7 @@ returns-clause-standing g c =
     let s = c.sew.ensures in
     let one : items run ≡ item ∷ [] = j.items ∙ ap (λ x. x ∷ []) c.draw-place.ensures.item in
     let fits = inside_is joined original added item c.args.first c.args.count m.piece m.length c.requires.inside in
-    standing_sewn joined original added c.args.tree.tree run c.sew.result.tree s.items c.sew.result.weighed c.sew.result.balanced c.requires.standing (standing_one joined original added run item one c.single-run.result.weighed c.single-run.result.balanced fits)
+    standing_sewn joined original added c.args.tree.tree run c.sew.result.tree s.items c.requires.standing (standing_one joined original added run item one fits)
 
 pub returns-clause-faithful : goal.returns-clause-faithful
 returns-clause-faithful g c f =

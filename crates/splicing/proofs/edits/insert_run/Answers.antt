@@ -14,7 +14,7 @@ pub returns-clause-standing : goal.returns-clause-standing
 returns-clause-standing g c =
     let sources = c.args.sources in
     let s = c.sew.ensures in
-    standing_sewn g.T.Total.joined (length sources.original.now) (length sources.added.now) c.add_run-left.result.tree c.cut-left.result.1.tree c.sew.result.tree s.items c.sew.result.weighed c.sew.result.balanced c.add_run-left.ensures.standing c.cut-left.ensures.standing.1
+    standing_sewn g.T.Total.joined (length sources.original.now) (length sources.added.now) c.add_run-left.result.tree c.cut-left.result.1.tree c.sew.result.tree s.items c.add_run-left.ensures.standing c.cut-left.ensures.standing.1
 
 pub returns-clause-faithful : goal.returns-clause-faithful
 returns-clause-faithful g c f =

@@ -16,7 +16,7 @@ returns-clause-standing g c =
     let sources = c.args.sources in
     let p = c.cut-part.ensures.standing in
     let s = c.sew.ensures in (
-      standing_sewn g.T.Total.joined (length sources.original.now) (length sources.added.now) c.cut-left.result.0.tree c.cut-part.result.1.tree c.sew.result.tree s.items c.sew.result.weighed c.sew.result.balanced c.cut-left.ensures.standing.0 p.1,
+      standing_sewn g.T.Total.joined (length sources.original.now) (length sources.added.now) c.cut-left.result.0.tree c.cut-part.result.1.tree c.sew.result.tree s.items c.cut-left.ensures.standing.0 p.1,
       p.0,
     )
 

@@ -7,11 +7,11 @@ pub depth-requires : goal.depth-requires
 depth-requires g c =
     let t = c.args.self.now in
     record {
-      weighed = t.standing.weighed;
+      weighed = t.tree.weighed;
       fits = omega (arith, long_fits t);
     }
 
 pub returns : goal.returns
 returns g c =
     let t = c.args.self.now in
-    subst (λ n. Shallow n c.depth.result) (sym (items_placed t) ∙ pieces_placed t) (c.depth.ensures.bound t.standing.balanced)
+    subst (λ n. Shallow n c.depth.result) (sym (items_placed t) ∙ pieces_placed t) (c.depth.ensures.bound t.tree.balanced)
