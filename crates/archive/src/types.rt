@@ -3,7 +3,7 @@ use ledger::words::Step;
 use marks::table::Marks;
 
 // A step that was made: the marks as they were before it, and which kept runs are its own: `kept` of them, from `first` on.
-#[derive(Clone, Copy)]
+#[derive(Clone, Copy, Debug, PartialEq, Eq)]
 pub struct Entry {
     pub step: Step,
     pub marks: Marks,

@@ -5,13 +5,14 @@ ghost use Rattle.nodes.specs.Trees.{items, long, red, blacks, Balanced, Bare, Fa
 use crate::types::PieceTree;
 use balance::{join_left, join_right};
 use measure::Total;
-use nodes::{Node, Tree, blacken, is_red};
+use nodes::{Colour, Node, Tree, blacken, is_red};
 
 impl<P: Copy, T: Total> PieceTree<P, T> {
     // The tree of no pieces.
     pub fn empty() -> Self
         ensures items { items result.tree ≡ [] }
         ensures long { long result.tree ≡ 0 }
+        ensures summed { Summed T.neutral T.joined result.tree }
     {
         PieceTree {
             tree: Tree::Empty,
@@ -26,6 +27,7 @@ impl<P: Copy, T: Total> PieceTree<P, T> {
         requires fits { place.value.item.length < 2 ^ 64 }
         ensures items { items result.tree ≡ place.value.item ∷ [] }
         ensures long { long result.tree ≡ place.value.item.length }
+        ensures summed { Summed T.neutral T.joined result.tree }
     {
         Self::empty().push_back(place)
     }
@@ -37,6 +39,7 @@ impl<P: Copy, T: Total> PieceTree<P, T> {
         requires fits { place.value.item.length + long self.tree < 2 ^ 64 }
         ensures items { items result.tree ≡ place.value.item ∷ items self.tree }
         ensures long { long result.tree ≡ place.value.item.length + long self.tree }
+        ensures summed { Summed T.neutral T.joined self.tree → Summed T.neutral T.joined result.tree }
     {
         Self::empty().join(place, self)
     }
@@ -48,8 +51,20 @@ impl<P: Copy, T: Total> PieceTree<P, T> {
         requires fits { long self.tree + place.value.item.length < 2 ^ 64 }
         ensures items { items result.tree ≡ items self.tree ++ place.value.item ∷ [] }
         ensures long { long result.tree ≡ long self.tree + place.value.item.length }
+        ensures summed { Summed T.neutral T.joined self.tree → Summed T.neutral T.joined result.tree }
     {
         self.join(place, Self::empty())
+    }
+
+    // A raw tree as a piece tree: its height is counted.
+    pub fn from_tree(tree: Tree<P, T>) -> Self
+        requires weighed { Weighed tree }
+        requires balanced { Balanced tree }
+        requires fits { long tree < 2 ^ 64 }
+        ensures { result.tree ≡ tree }
+    {
+        let height = black_height(&tree);
+        PieceTree { tree, height }
     }
 
     // The tree with its top place painted black.
@@ -57,10 +72,10 @@ impl<P: Copy, T: Total> PieceTree<P, T> {
         requires weighed { Weighed tree }
         requires fits { long tree < 2 ^ 64 }
         requires tall { height ≡ blacks tree }
-        requires summed { Summed T.neutral T.joined tree }
         requires leans { (Legal tree) ⊎ ((LeansRight tree) ⊎ (LeansLeft tree)) }
         ensures items { items result.tree ≡ items tree }
         ensures long { long result.tree ≡ long tree }
+        ensures summed { Summed T.neutral T.joined tree → Summed T.neutral T.joined result.tree }
     {
         let height = if is_red(&tree) { height + 1 } else { height };
         PieceTree {
@@ -76,6 +91,7 @@ impl<P: Copy, T: Total> PieceTree<P, T> {
         requires fits { long self.tree + place.value.item.length + long right.tree < 2 ^ 64 }
         ensures items { items result.tree ≡ items self.tree ++ place.value.item ∷ items right.tree }
         ensures long { long result.tree ≡ long self.tree + place.value.item.length + long right.tree }
+        ensures summed { Summed T.neutral T.joined self.tree → Summed T.neutral T.joined right.tree → Summed T.neutral T.joined result.tree }
     {
         if self.height >= right.height {
             let height = self.height;
@@ -86,5 +102,20 @@ impl<P: Copy, T: Total> PieceTree<P, T> {
             let tree = join_left(place, self.tree, self.height, right.tree, right.height);
             Self::blackened(tree, height)
         }
+    }
+}
+
+// The black height of a tree: the black places on the way down its left side.
+fn black_height<P, T>(tree: &Tree<P, T>) -> usize
+    requires weighed { Weighed tree.now }
+    requires fits { long tree.now < 2 ^ 64 }
+    ensures { result ≡ blacks tree.now }
+{
+    match tree {
+        Tree::Empty => 0,
+        Tree::Place(place) => match place.colour {
+            Colour::Red => black_height(&place.left),
+            Colour::Black => black_height(&place.left) + 1,
+        },
     }
 }

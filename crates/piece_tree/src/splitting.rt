@@ -24,6 +24,7 @@ impl<P: Copy, T: Total> PieceTree<P, T> {
         ensures inner { result.inner < result.place.value.item.length }
         ensures bare { Bare result.place.value }
         ensures fair { Fair result.place.value.item }
+        ensures summed { Summed T.neutral T.joined self.tree → Summed T.neutral T.joined result.left.tree × Summed T.neutral T.joined result.right.tree }
     {
         let PieceTree { tree, height } = self;
         let Tree::Place(place) = tree else {
@@ -63,6 +64,7 @@ impl<P: Copy, T: Total> PieceTree<P, T> {
         ensures long { result.0.value.item.length + long result.1.tree ≡ long self.tree }
         ensures bare { Bare result.0.value }
         ensures fair { Fair result.0.value.item }
+        ensures summed { Summed T.neutral T.joined self.tree → Summed T.neutral T.joined result.1.tree }
     {
         let part = self.split(0);
         (part.place, part.right)
@@ -75,6 +77,7 @@ impl<P: Copy, T: Total> PieceTree<P, T> {
         ensures long { long result.0.tree + result.1.value.item.length ≡ long self.tree }
         ensures bare { Bare result.1.value }
         ensures fair { Fair result.1.value.item }
+        ensures summed { Summed T.neutral T.joined self.tree → Summed T.neutral T.joined result.0.tree }
     {
         let length = self.len();
         let part = self.split(length - 1);
@@ -86,6 +89,7 @@ impl<P: Copy, T: Total> PieceTree<P, T> {
         requires fits { long self.tree + long right.tree < 2 ^ 64 }
         ensures items { items result.tree ≡ items self.tree ++ items right.tree }
         ensures long { long result.tree ≡ long self.tree + long right.tree }
+        ensures summed { Summed T.neutral T.joined self.tree → Summed T.neutral T.joined right.tree → Summed T.neutral T.joined result.tree }
     {
         if right.len() == 0 {
             return self;

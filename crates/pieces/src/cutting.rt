@@ -58,6 +58,7 @@ fn cut_piece<E: Element, T: Measure<E>>(
     requires spare { 0 < vec_len stock.old }
     ensures halves { Halves E.breaks T.neutral T.value T.joined sources.entry.original.now sources.entry.added.now (items part.left.tree) part.place.value.item part.inner (items part.right.tree) (items result.0.tree) (items result.1.tree) }
     ensures long { (long result.0.tree ≡ long part.left.tree + part.inner) × (part.inner + long result.1.tree ≡ part.place.value.item.length + long part.right.tree) }
+    ensures summed { Summed T.neutral T.joined part.left.tree → Summed T.neutral T.joined part.right.tree → Summed T.neutral T.joined result.0.tree × Summed T.neutral T.joined result.1.tree }
     ensures len { vec_len stock.new + 1 ≡ vec_len stock.old }
     ensures capacity { vec_capacity stock.new ≡ vec_capacity stock.old }
 {

@@ -31,6 +31,7 @@ fn join_ends<T: Total>(
     requires room { vec_len stock.old < vec_capacity stock.old }
     ensures items { items result.tree ≡ items front.tree ++ sewn_on T.joined last.value.item (first.value.item ∷ items back.tree) }
     ensures long { long result.tree ≡ long front.tree + last.value.item.length + first.value.item.length + long back.tree }
+    ensures summed { Summed T.neutral T.joined front.tree → Summed T.neutral T.joined back.tree → Summed T.neutral T.joined result.tree }
     ensures stock { vec_len stock.new + length (items result.tree) ≡ vec_len stock.old + (length (items front.tree) + length (items back.tree) + 2) }
     ensures capacity { vec_capacity stock.new ≡ vec_capacity stock.old }
 {
@@ -61,6 +62,7 @@ pub fn sew<T: Total>(
     requires room { vec_len stock.old + (length (items left.tree) + length (items right.tree)) ≤ vec_capacity stock.old }
     ensures items { items result.tree ≡ sewn T.joined (items left.tree) (items right.tree) }
     ensures long { long result.tree ≡ long left.tree + long right.tree }
+    ensures summed { Summed T.neutral T.joined left.tree → Summed T.neutral T.joined right.tree → Summed T.neutral T.joined result.tree }
     ensures stock { vec_len stock.new + length (items result.tree) ≡ vec_len stock.old + (length (items left.tree) + length (items right.tree)) }
     ensures capacity { vec_capacity stock.new ≡ vec_capacity stock.old }
 {

@@ -64,9 +64,10 @@ returns-then-part-eq0-clause-faithful g c f =
     let rest = part.place.value.item ∷ items part.right.tree in
     let s = c.split-part.ensures in
     let j = c.push_front-back.ensures in
+    let sides = s.summed f.0 in
     let carries = subst carry (sym s.items) f.1 in (
-      (part.left.summed, carry_front breaks neutral value joined original added left rest carries),
-      (c.push_front-back.result.summed, subst carry (sym j.items) (carry_back breaks neutral value joined original added left rest carries)),
+      (sides.0, carry_front breaks neutral value joined original added left rest carries),
+      (j.summed sides.1, subst carry (sym j.items) (carry_back breaks neutral value joined original added left rest carries)),
     )
 
 pub returns-clause-front : goal.returns-clause-front
@@ -121,5 +122,7 @@ returns-clause-faithful g c f =
     let part = c.split-part.result in
     let s = c.split-part.ensures in
     let p = c.cut_piece.ensures in
+    let sides = s.summed f.0 in
+    let trees = p.summed sides.0 sides.1 in
     let carries = halves_carry breaks neutral value joined original added (items part.left.tree) part.place.value.item part.inner (items part.right.tree) (items c.cut_piece.result.0.tree) (items c.cut_piece.result.1.tree) p.halves (subst (AllCarry breaks neutral value joined original added) (sym s.items) f.1) in
-    ((c.cut_piece.result.0.summed, carries.0), (c.cut_piece.result.1.summed, carries.1))
+    ((trees.0, carries.0), (trees.1, carries.1))

@@ -40,8 +40,8 @@ returns-clause-faithful g c f =
     let run = c.single-run.result.tree in
     let s = c.sew.ensures in
     let one : items run ≡ c.measure-item.result ∷ [] = c.single-run.ensures.items ∙ ap (λ x. x ∷ []) c.draw-place.ensures.item in
-    faithful_sewn breaks neutral value joined g.met.T.Total.monoid original added c.args.tree.tree run c.sew.result.tree s.items (λ _ _. c.sew.result.summed) f
-    (c.single-run.result.summed, subst (AllCarry breaks neutral value joined original added) (sym one) (c.measure-item.ensures.carries, tt))
+    faithful_sewn breaks neutral value joined g.met.T.Total.monoid original added c.args.tree.tree run c.sew.result.tree s.items s.summed f
+    (c.single-run.ensures.summed, subst (AllCarry breaks neutral value joined original added) (sym one) (c.measure-item.ensures.carries, tt))
 
 pub returns-clause-drawn : goal.returns-clause-drawn
 returns-clause-drawn g c =

@@ -54,4 +54,4 @@ returns-clause-faithful g c f =
     let sources = c.args.sources in
     let s = c.sew.ensures in
     let parts = c.cut-left.ensures.faithful f in
-    faithful_sewn g.E.Element.breaks g.T.Total.neutral g.T.Measure.value g.T.Total.joined g.met.T.Total.monoid sources.original.now sources.added.now c.loop-run.left.tree c.cut-left.result.1.tree c.sew.result.tree s.items (λ _ _. c.sew.result.summed) (c.loop-run.invariant.faithful parts.0) parts.1
+    faithful_sewn g.E.Element.breaks g.T.Total.neutral g.T.Measure.value g.T.Total.joined g.met.T.Total.monoid sources.original.now sources.added.now c.loop-run.left.tree c.cut-left.result.1.tree c.sew.result.tree s.items s.summed (c.loop-run.invariant.faithful parts.0) parts.1

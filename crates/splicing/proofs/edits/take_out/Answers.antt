@@ -25,4 +25,4 @@ returns-clause-faithful g c f =
     let sources = c.args.sources in
     let s = c.sew.ensures in
     let one = c.cut-left.ensures.faithful f in
-    faithful_sewn g.E.Element.breaks g.T.Total.neutral g.T.Measure.value g.T.Total.joined g.met.T.Total.monoid sources.original.now sources.added.now c.cut-left.result.0.tree c.cut-part.result.1.tree c.sew.result.tree s.items (λ _ _. c.sew.result.summed) one.0 (c.cut-part.ensures.faithful one.1).1
+    faithful_sewn g.E.Element.breaks g.T.Total.neutral g.T.Measure.value g.T.Total.joined g.met.T.Total.monoid sources.original.now sources.added.now c.cut-left.result.0.tree c.cut-part.result.1.tree c.sew.result.tree s.items s.summed one.0 (c.cut-part.ensures.faithful one.1).1
