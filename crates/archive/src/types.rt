@@ -1,4 +1,4 @@
-// The records of a history. They tell parts of one vector and hold none of their own: all memory is what the caller gave.
+// The records of a history. They tell parts of vectors and hold none of their own: all memory is what the caller gave.
 use ledger::words::Step;
 use marks::table::Marks;
 

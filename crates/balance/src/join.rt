@@ -1,5 +1,5 @@
 // Joining: two trees and a place between them become one tree, by black heights.
-// A place and its two sides are parameters, not a struct: each step takes them apart and makes the next call of other parts.
+// A place and its two sides are parameters, not a struct: but for one test, each step takes them apart and calls with other parts.
 ghost use Rattle.std.specs.Prelude.{◌≡◌, ◌+◌, ◌^◌, ◌<◌, ◌≤◌, true, false, ◌∷◌, ◌++◌};
 ghost use Rattle.nodes.specs.Trees.{items, long, red, blacks, Bare, Fair, Legal, LeansLeft, LeansRight, Summed, Weighed};
 ghost use Rattle.balance.specs.Sides.{between, reds_on, Leans, Linkable};

@@ -1,5 +1,5 @@
 // How one mark moves where text is inserted and deleted.
-// An offset and a count stay two numbers, as a step has them: a struct of both would be made for each call and taken apart in it.
+// An offset and a count are two numbers, as a step has them: a struct of both would be made for each call and taken apart in it.
 ghost use Rattle.std.specs.Prelude.{◌≡◌, ◌+◌, ◌^◌, ◌<◌, ◌&&◌, ◌||◌, ◌==◌, nat_lt};
 ghost use Rattle.ledger.specs.Steps.{is_right, shifted, pulled};
 

@@ -11,7 +11,7 @@ use crate::moving::{after_delete, after_insert};
 use ledger::words::Mark;
 
 // The marks of a text, from a to z.
-// A name stays a byte, as a step has it: a type of names would ask a conversion of each caller and save two clauses.
+// A name is a byte, as a step has it: a type of names would ask a conversion of each caller and save two clauses.
 #[derive(Clone, Copy, PartialEq, Eq, Debug)]
 pub struct Marks {
     entries: [Option<Mark>; 26],

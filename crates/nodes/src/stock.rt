@@ -1,5 +1,5 @@
 // The stock of places: boxes are made once, drawn for new pieces, and given back.
-// That a call leaves its capacity as it was is a clause of each: the type of a Vec says nothing of it.
+// That a call leaves its capacity as it was is a clause of `draw` and `recycle`: the type of a Vec says nothing of it.
 ghost use Rattle.std.specs.Prelude.{◌≡◌, ℕ, ◌+◌, ◌<◌, ◌≤◌, length, IfOk, vec_len, vec_capacity};
 ghost use Rattle.nodes.specs.Trees.{items, Bare};
 

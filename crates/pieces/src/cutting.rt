@@ -1,5 +1,5 @@
 // Cutting a tree of pieces in two.
-// A tree and the stock stay two parameters: a cut leaves two trees and one stock, from which both draw.
+// The sources, a tree and the stock are three parameters: a cut leaves two trees over the same sources and one stock.
 ghost use Rattle.std.specs.Prelude.{◌≡◌, ℕ, ◌+◌, ◌^◌, ◌<◌, ◌≤◌, List, [], ◌∷◌, ◌++◌, length, take, drop, vec_len, vec_capacity};
 ghost use Rattle.nodes.specs.Trees.{items, long, Balanced, Bare, Fair, Summed, Weighed};
 ghost use Rattle.pieces.specs.Halves.{Halves};
@@ -15,7 +15,7 @@ use piece_tree::{PieceTree, Split};
 
 // Cuts a tree in two at an offset: the pieces before it, and those behind it. A piece that lies on both sides is cut and
 // measured anew.
-// A tree does not hold its sources: that it stands over them, and is faithful to them, is said in clauses, here and above.
+// A tree does not hold its sources, so that it lies in them, and is faithful to them, is said in clauses, here and in `splicing`.
 pub fn cut<E: Element, T: Measure<E>>(
     sources: Sources<'_, E>,
     tree: PieceTree<Place, T>,

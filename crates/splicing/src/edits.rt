@@ -1,5 +1,5 @@
 // Changing a tree of pieces: a run put in, a part taken out, kept runs put back.
-// A tree and the stock stay two parameters: a cut leaves two trees and one stock, from which both draw.
+// The sources, a tree and the stock are three parameters: a cut leaves two trees over the same sources and one stock.
 ghost use Rattle.std.specs.Prelude.{◌≡◌, ℕ, ◌+◌, ◌^◌, ◌<◌, ◌≤◌, List, [], ◌∷◌, ◌++◌, map, length, take, drop, vec_len, vec_capacity};
 ghost use Rattle.ledger.specs.Places.{stretch};
 ghost use Rattle.nodes.specs.Trees.{items, long};

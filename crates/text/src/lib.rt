@@ -20,7 +20,7 @@ use nodes::Node;
 use piece_tree::PieceTree;
 
 // The read-only original, the added source, which grows at its end, and the pieces of both that the text is made of, in a
-// red-black tree. Each piece is a longest stretch. There are at most `limit` pieces, and eight tree places more than that,
+// red-black tree. Each piece is a longest stretch, and the tree carries the breaks and totals of its elements. There are at most `limit` pieces, and eight tree places more than that,
 // in use or in stock, unless the limit is 0.
 #[derive(Drop)]
 pub struct Text<'o, E: Element, T: Measure<E>> {
@@ -30,7 +30,7 @@ pub struct Text<'o, E: Element, T: Measure<E>> {
     stock: Vec<Box<Node<Place, T>>>,
     limit: usize,
     ghost standing: { Lying (length original.now) (length added.items) tree.tree } by { lying_prop (length original.now) (length added.items) tree.tree },
-    ghost measured: { Faithful E.breaks T.neutral T.value T.joined original.now added.items tree.tree } by { faithful_prop T.code E.breaks T.neutral T.value T.joined original.now added.items tree.tree },
+    pub ghost measured: { Faithful E.breaks T.neutral T.value T.joined original.now added.items tree.tree } by { faithful_prop T.code E.breaks T.neutral T.value T.joined original.now added.items tree.tree },
     ghost short: { long tree.tree ≤ 2 ^ 24 },
     ghost few: { length (items tree.tree) ≤ limit },
     ghost ample: { 0 < limit → limit + 8 ≤ vec_len stock + length (items tree.tree) },

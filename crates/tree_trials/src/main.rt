@@ -2,7 +2,7 @@
 // held against a plain list of the pieces.
 #![tactic(auto)]
 
-ghost use Rattle.std.specs.Prelude.{◌<◌, ◌≤◌};
+ghost use Rattle.std.specs.Prelude.{◌≡◌, ◌<◌, ◌≤◌};
 ghost use Rattle.nodes.specs.Trees.{long, Fair};
 
 use measure::{Fingerprint, Total, fold};
@@ -91,7 +91,8 @@ struct Turned {
 
 // Cuts a tree at the piece that holds the offset, and turns its parts.
 fn turn_tree(turn: Turn, tree: Pieces, offset: usize) -> Turned
-    requires { offset < long tree.tree }
+    requires within { offset < long tree.tree }
+    ensures same { long result.tree.tree ≡ long tree.tree }
 {
     let part = tree.split(offset);
     let before = sums(&part.left.tree).pieces;
