@@ -5,7 +5,8 @@ ghost use Rattle.archive.specs.Chapters.{by_number, chapter_of, LendsChapter};
 
 use crate::types::Chapter;
 
-// The chapter of version 0 is a field, for it stands even where no memory was given. `get` and `get_mut` alone tell it from the others.
+// The chapter of version 0 is a field, for it stands even where no memory was given. `get` and `get_mut` alone tell it from the
+// others.
 #[derive(Drop)]
 pub struct Chapters {
     pub root: Chapter,

@@ -107,6 +107,7 @@ fn join_on<P: Copy, T: Total>(
     }
 }
 
+// Each side has a function of its own, one call of the one above: who joins two trees knows which is the taller.
 // Joins a tree of the black height `tall` with a black one of the height `low`, which is no greater, down the right side
 // of the first.
 pub fn join_right<P: Copy, T: Total>(

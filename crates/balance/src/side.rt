@@ -6,7 +6,8 @@ ghost use Rattle.balance.specs.Sides.{between, inner_side, outer_side, reds_on, 
 use measure::Total;
 use nodes::{Colour, Node, Tree, is_red, link, unlink};
 
-// The side of a place that a tree is joined down: the outer one. The other one is the inner one.
+// The side of a place that a tree is joined down: the outer one. The other one is the inner one. A value and no type parameter:
+// calls need no type arguments, and clauses read by the sides' names.
 #[derive(Clone, Copy, PartialEq, Eq, Debug)]
 pub(crate) enum Side {
     Left,

@@ -16,7 +16,7 @@ const LONGEST_LINE: usize = 20;
 // The text of a line, its end included.
 pub type Line = ArrayString<LONGEST_LINE>;
 
-// A buffer of the caller's, and where the bytes printed in it end.
+// A buffer of the caller's, and where the bytes printed in it end. No Vec can stand for the two: nothing is allocated here.
 #[derive(Debug, Drop)]
 pub struct Page<'a> {
     pub buffer: &'a mut [u8],

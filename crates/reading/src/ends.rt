@@ -12,7 +12,7 @@ use nodes::sums;
 use seeking::find;
 
 // The place `skip` behind a first one.
-#[derive(Clone, Copy)]
+#[derive(Clone, Copy, PartialEq, Eq, Debug)]
 pub(crate) struct Spot {
     pub(crate) first: Place,
     pub(crate) skip: usize,
@@ -63,7 +63,8 @@ impl<'t, T: Total> Counter<'t, T> {
     }
 }
 
-// Whether there are two places, and the first goes on to the second.
+// Whether there are two places, and the first goes on to the second. Beside `go_on` of `pieces`, whose items have indices that
+// fit.
 pub(crate) fn meet(before: Option<Spot>, after: Option<Spot>) -> bool
     ensures { (if result then 1 else 0) ≡ joint (spotted before) (spotted after) }
 {

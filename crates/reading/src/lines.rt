@@ -41,7 +41,8 @@ impl<'t, E: Element, T: Measure<E>> Reader<'t, E, T> {
         found.before.breaks + count_breaks(front) + 1
     }
 
-    // A line's first offset and its length, where there is a line of this number.
+    // A line's first offset and its length, where there is a line of this number. A pair, as the rules answer it: each caller
+    // would take a struct of the two apart.
     pub fn line(&self, number: usize) -> Option<(usize, usize)>
         requires fits { long self.now.tree.now + 1 < 2 ^ 64 }
         ensures { Measured E.breaks T.neutral T.value T.joined self.now → result ≡ line_found E.breaks (read self.now) number }

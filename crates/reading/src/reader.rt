@@ -21,7 +21,8 @@ pub struct Reader<'t, E, T> {
     ghost fits: { long tree.now < 2 ^ 64 },
 }
 
-// A tree of longest pieces, to be counted.
+// A tree of longest pieces, to be counted. No part of a reader: what is counted need not lie in its sources, and what is read
+// need not be of longest pieces.
 #[derive(Drop)]
 pub struct Counter<'t, T> {
     pub tree: &'t Tree<Place, T>,

@@ -20,7 +20,7 @@ pub fn split_line(bytes: &[u8]) -> (&[u8], &[u8])
     bytes.split_at(measure_line(bytes))
 }
 
-// Whether a line is a single dot.
+// Whether a line is a single dot. The dot is told as a char, as letters of commands are: a rule of the project.
 pub fn is_dot_line(line: &[u8]) -> bool
     ensures { result ≡ is_dot line.now }
 {

@@ -94,7 +94,8 @@ pub fn take_out<E: Element, T: Measure<E>>(
     (sew(left, right, stock), part)
 }
 
-// Gives the places of a part back to the stock, and pushes its pieces onto kept runs.
+// Gives the places of a part back to the stock, and pushes its pieces onto kept runs. Beside `recycle`, so that a part is walked
+// once.
 pub fn keep_runs<T: Total>(
     part: Tree<Place, T>,
     stock: &mut Vec<Box<Node<Place, T>>>,

@@ -20,8 +20,8 @@ use nodes::Node;
 use piece_tree::PieceTree;
 
 // The read-only original, the added source, which grows at its end, and the pieces of both that the text is made of, in a
-// red-black tree. Each piece is a longest stretch, and the tree carries the breaks and totals of its elements. There are at most `limit` pieces, and eight tree places more than that,
-// in use or in stock, unless the limit is 0.
+// red-black tree. Each piece is a longest stretch, and the tree carries the breaks and totals of its elements. There are at
+// most `limit` pieces, and eight tree places more than that, in use or in stock, unless the limit is 0.
 #[derive(Drop)]
 pub struct Text<'o, E: Element, T: Measure<E>> {
     original: &'o [E],
