@@ -11,7 +11,7 @@ use Rattle.archive.specs.declared.types.Entry.{Entry}
 use Rattle.archive.proofs.Slices.{part_reverse}
 
 -- what is filed last is the newest
-reverse_last : {X : Type 0} (after before : List X) (x : X) → after ≡ before ++ x ∷ [] → reverse after ≡ x ∷ reverse before
+pub reverse_last : {X : Type 0} (after before : List X) (x : X) → after ≡ before ++ x ∷ [] → reverse after ≡ x ∷ reverse before
 reverse_last after before x last = ap reverse last ∙ reverse-append before (x ∷ [])
 
 -- an entry whose runs stand right behind the others, and a chapter whose entries do

@@ -52,10 +52,12 @@ impl<'s, E: Element> Sources<'s, E> {
     }
 }
 
-// How many elements of a part are breaks.
+// How many elements of a part are breaks. A sum of ones and zeros: the count of a filter takes up to twice as long.
 pub fn count_breaks<E: Element>(part: &[E]) -> usize
     ensures count { result ≡ count_breaks E.breaks part.now }
     ensures few { result ≤ length part.now }
 {
-    part.iter().filter(|element| element.is_break()).count()
+    part.iter()
+        .map(|element| usize::from(element.is_break()))
+        .sum()
 }

@@ -12,7 +12,7 @@ use Rattle.hex.specs.Hex.{encode_lower, encode_with, lower_digits}
 use Rattle.printing.specs.Numerals.{hex_digit, hex8, hex_value}
 
 -- a digit reads back as its value
-digit_reads_back : (d : ℕ) → d < 16 → digit_value (hex_digit d) ≡ d
+pub digit_reads_back : (d : ℕ) → d < 16 → digit_value (hex_digit d) ≡ d
 digit_reads_back d small = grind (arith, nat_tests)
 
 -- the digits read back as the number

@@ -77,6 +77,12 @@ joint_few (x ∷ xs) ys =
     let one = joint_one (x ∷ xs) ys in
     omega (arith, some, one)
 
+-- nothing is gone on to where nothing stands
+pub joint_none : (xs : List Place) → joint xs [] ≡ 0
+joint_none [] = refl
+joint_none (x ∷ []) = refl
+joint_none (x ∷ next ∷ xs) = joint_none (next ∷ xs)
+
 -- only the last place before and the first behind count
 pub joint_last : (xs : List Place) (x : Place) (ys : List Place) → joint (xs ++ x ∷ []) ys ≡ joint (x ∷ []) ys
 joint_last [] x ys = refl
@@ -100,6 +106,9 @@ pub joint_take : (xs ys : List Place) (n : ℕ) → 0 < n → joint xs (take n y
 joint_take xs ys zero l = absurd (omega arith)
 joint_take xs [] (suc n) l = refl
 joint_take xs (y ∷ ys) (suc n) l = joint_first xs y (take n ys) ∙ sym (joint_first xs y ys)
+
+pub joint_ends : (xs ys : List Place) (n : ℕ) → length xs ≡ n → joint (drop (n - 1) xs) (take 1 ys) ≡ joint xs ys
+joint_ends xs ys n e = joint_end xs (take 1 ys) n e ∙ joint_take xs ys 1 (omega arith)
 
 -- no more pieces than places
 pub pieces_few : (xs : List Place) → length (pieces_of xs) ≤ length xs

@@ -1,8 +1,9 @@
 // Numbers of pieces.
-ghost use Rattle.std.specs.Prelude.{◌≡◌, ◌+◌, ◌^◌, ◌<◌, ◌≤◌, ◌++◌, length, take, drop};
+ghost use Rattle.std.specs.Prelude.{◌≡◌, ◌+◌, ◌^◌, ◌<◌, ◌≤◌, ◌++◌, length, take, drop, if◌then◌else◌};
 ghost use Rattle.ledger.specs.Places.{pieces_of, stretch};
 ghost use Rattle.nodes.specs.Trees.{long};
 ghost use Rattle.pieces.specs.Spread.{places};
+ghost use Rattle.reading.specs.Joints.{joint};
 
 use crate::ends::{Spot, meet};
 use crate::reader::Counter;
@@ -64,14 +65,25 @@ impl<'t, T: Total> Counter<'t, T> {
         self.pieces_before(offset) + 1 + self.pieces_behind(offset) - front - back
     }
 
+    // Whether the first `offset` places go on to those behind the first `stop`, if there are any.
+    fn meets_across(&self, offset: usize, stop: usize) -> bool
+        requires front { offset ≤ long self.now.tree.now }
+        requires back { stop ≤ long self.now.tree.now }
+        ensures { (if result then 1 else 0) ≡ joint (take offset (places self.now.tree.now)) (drop stop (places self.now.tree.now)) }
+    {
+        let back = self.first_behind(stop);
+        if back.is_none() {
+            return false;
+        }
+        meet(self.last_before(offset), back)
+    }
+
     // The number of pieces once the `count` places behind the first `offset` are taken out.
     pub fn pieces_without(&self, offset: usize, count: usize) -> usize
         requires within { offset + count ≤ long self.now.tree.now }
         ensures { result ≡ length (pieces_of (take offset (places self.now.tree.now) ++ drop (offset + count) (places self.now.tree.now))) }
     {
-        let front = self.last_before(offset);
-        let back = self.first_behind(offset + count);
-        let joint = usize::from(meet(front, back));
+        let joint = usize::from(self.meets_across(offset, offset + count));
         self.pieces_before(offset) + self.pieces_behind(offset + count) - joint
     }
 }

@@ -3,17 +3,21 @@
 
 ghost use Rattle.std.specs.Prelude.{◌≡◌, map, IfOk, IfSome, OnOk};
 ghost use Rattle.std.specs.Io.KnownBytes.{Appends};
+ghost use Rattle.printing.specs.Output.{Prints};
 ghost use Rattle.session.specs.Report.{report, totals_of};
 
 use element::Element;
 use measure::{Fingerprint, Pair, Tally, fold};
-use printing::{Line, denial_line, totals_line};
+use printing::{NoRoom, Page};
 use script::paper::{INPUT_LIMIT, read_paper};
 use std::alloc::{AllocError, Global};
 use std::io::{Read, Write};
 
 // The hand that a set text is typed by.
 const SET_HAND: u8 = 0;
+
+// The bytes of a page that a line is printed on: more than the longest line has.
+const LINE_ROOM: usize = 64;
 
 // The totals that a session keeps of every part of its text.
 pub type Totals = Pair<Fingerprint, Tally>;
@@ -38,29 +42,53 @@ pub fn answer_paper<E: Element, R: Read + Drop, W: Write>(
 pub fn run<E: Element>(alloc: Global, input: &[u8]) -> Result<Vec<u8>, AllocError>
     ensures { IfOk result (λ v. v.items ≡ report E.made E.shown E.typist input.now) }
 {
-    let line = match read_paper(input) {
-        Ok(paper) => print_text::<E>(alloc, paper.set_text)?,
-        Err(denial) => denial_line(denial.number()),
+    let mut buffer = [0; LINE_ROOM];
+    let mut page = Page {
+        buffer: &mut buffer,
+        end: 0,
     };
-    Vec::from_slice(alloc, line.as_bytes())
+    print_paper::<E>(alloc, input, &mut page)?.unwrap();
+    let end = page.end;
+    Vec::from_slice(alloc, &buffer[..end])
 }
 
-// The line of totals of a set text.
-fn print_text<E: Element>(alloc: Global, text: &[u8]) -> Result<Line, AllocError>
-    ensures { IfOk result (λ line. line.bytes ≡ totals_of E.shown E.typist (map (λ b. E.made b 0) text.now)) }
+// Prints the line of an input on a page, if it has room there.
+fn print_paper<E: Element>(
+    alloc: Global,
+    input: &[u8],
+    page: &mut Page<'_>,
+) -> Result<Result<(), NoRoom>, AllocError>
+    ensures { IfOk result (λ printed. Prints page.old page.new (report E.made E.shown E.typist input.now) printed) }
+{
+    match read_paper(input) {
+        Ok(paper) => print_text::<E>(alloc, paper.set_text, page),
+        Err(denial) => Ok(page.write_denial(denial.number())),
+    }
+}
+
+// Prints the line of totals of a set text on a page, if it has room there.
+fn print_text<E: Element>(
+    alloc: Global,
+    text: &[u8],
+    page: &mut Page<'_>,
+) -> Result<Result<(), NoRoom>, AllocError>
+    ensures { IfOk result (λ printed. Prints page.old page.new (totals_of E.shown E.typist (map (λ b. E.made b 0) text.now)) printed) }
 {
     let elements: Vec<E> = set_elements(alloc, text)?;
     let totals: Totals = fold(&elements);
-    Ok(totals_line(totals.first.value, totals.second.count))
+    Ok(page.write_totals(totals.first.value, totals.second.count))
 }
 
 // The elements of a set text.
 fn set_elements<E: Element>(alloc: Global, text: &[u8]) -> Result<Vec<E>, AllocError>
     ensures { IfOk result (λ v. v.items ≡ map (λ b. E.made b 0) text.now) }
 {
-    text.iter()
-        .map(|byte| E::make(*byte, SET_HAND))
-        .collect(alloc)
+    let mut elements = Vec::with_capacity(alloc, text.len())?;
+    let made = |byte: &u8|
+        ensures { result ≡ E.made byte.now 0 }
+    { E::make(*byte, SET_HAND) };
+    elements.extend(text.iter().map(made))?;
+    Ok(elements)
 }
 
 #[cfg(test)]

@@ -2,7 +2,7 @@
 // held against a plain list of the pieces.
 #![tactic(auto)]
 
-ghost use Rattle.std.specs.Prelude.{◌≡◌, ◌<◌, ◌≤◌};
+ghost use Rattle.std.specs.Prelude.{◌≡◌, ◌+◌, ◌^◌, ◌<◌, ◌≤◌};
 ghost use Rattle.nodes.specs.Trees.{long, Fair};
 
 use measure::{Fingerprint, Total, fold};
@@ -22,9 +22,14 @@ const SEEKS: usize = 1_000;
 // Keeps lengths far below what a usize holds.
 const LONGEST: usize = 1 << 40;
 
-type Pieces = PieceTree<usize, Fingerprint>;
-
 type Stock = Vec<Box<Node<usize, Fingerprint>>>;
+
+// The piece tree of the trials: at the longest one piece longer than the bound.
+#[derive(Drop)]
+struct Pieces {
+    whole: PieceTree<usize, Fingerprint>,
+    ghost short: { long whole.tree ≤ 2 ^ 40 + 7 },
+}
 
 // A simple generator of numbers.
 #[derive(Drop)]
@@ -62,17 +67,20 @@ fn item(number: usize) -> Item<usize, Fingerprint>
 
 // All pieces in the order of their numbers.
 fn build(stock: &mut Stock) -> Pieces {
-    (0..PIECES).fold(PieceTree::empty(), |tree, number| {
-        append(tree, stock, number)
-    })
+    let none = Pieces {
+        whole: PieceTree::empty(),
+    };
+    (0..PIECES).fold(none, |pieces, number| append(pieces, stock, number))
 }
 
 // One more piece at the end, where the stock has a place for it.
-fn append(tree: Pieces, stock: &mut Stock, number: usize) -> Pieces {
-    if stock.is_empty() || tree.len() > LONGEST {
-        return tree;
+fn append(pieces: Pieces, stock: &mut Stock, number: usize) -> Pieces {
+    if stock.is_empty() || pieces.whole.len() > LONGEST {
+        return pieces;
     }
-    tree.push_back(draw(stock, item(number)))
+    Pieces {
+        whole: pieces.whole.push_back(draw(stock, item(number))),
+    }
 }
 
 // Where the piece at a cut goes, when what lies after it is put before what lies in front of it.
@@ -85,22 +93,25 @@ enum Turn {
 // A tree in another order, and how many pieces lay before the cut.
 #[derive(Drop)]
 struct Turned {
-    tree: Pieces,
+    pieces: Pieces,
     before: usize,
 }
 
 // Cuts a tree at the piece that holds the offset, and turns its parts.
-fn turn_tree(turn: Turn, tree: Pieces, offset: usize) -> Turned
-    requires within { offset < long tree.tree }
-    ensures same { long result.tree.tree ≡ long tree.tree }
+fn turn_tree(turn: Turn, pieces: Pieces, offset: usize) -> Turned
+    requires within { offset < long pieces.whole.tree }
+    ensures same { long result.pieces.whole.tree ≡ long pieces.whole.tree }
 {
-    let part = tree.split(offset);
+    let part = pieces.whole.split(offset);
     let before = sums(&part.left.tree).pieces;
-    let tree = match turn {
+    let whole = match turn {
         Turn::PieceLast => part.right.concat(part.left.push_back(part.place)),
         Turn::PieceBetween => part.right.join(part.place, part.left),
     };
-    Turned { tree, before }
+    Turned {
+        pieces: Pieces { whole },
+        before,
+    }
 }
 
 // The same on a plain list.
@@ -117,16 +128,19 @@ fn turn_list(turn: Turn, numbers: &mut [usize], before: usize) {
 // A tree beside the plain list that it is held against.
 #[derive(Drop)]
 struct Trial {
-    tree: Pieces,
+    pieces: Pieces,
     numbers: Vec<usize>,
 }
 
 // One turn at a random offset, of both.
 fn step(trial: Trial, random: &mut Random) -> Trial {
-    let Trial { tree, mut numbers } = trial;
-    let length = tree.len();
+    let Trial {
+        pieces,
+        mut numbers,
+    } = trial;
+    let length = pieces.whole.len();
     if length == 0 {
-        return Trial { tree, numbers };
+        return Trial { pieces, numbers };
     }
     let offset = random.below(length);
     let turn = if random.below(2) == 0 {
@@ -134,10 +148,10 @@ fn step(trial: Trial, random: &mut Random) -> Trial {
     } else {
         Turn::PieceBetween
     };
-    let turned = turn_tree(turn, tree, offset);
+    let turned = turn_tree(turn, pieces, offset);
     turn_list(turn, &mut numbers, turned.before);
     Trial {
-        tree: turned.tree,
+        pieces: turned.pieces,
         numbers,
     }
 }
@@ -199,7 +213,7 @@ fn find_plainly<F: Fn(Item<usize, Fingerprint>) -> usize>(
 
 // Whether a random offset, and the break of a random number, are found where the list has them.
 fn found(pieces: &Pieces, numbers: &[usize], random: &mut Random) -> bool {
-    let tree = &pieces.tree;
+    let tree = &pieces.whole.tree;
     let all = sums(tree);
     if all.length == 0 || all.breaks == 0 {
         return false;
@@ -226,9 +240,10 @@ fn bounded(depth: usize, pieces: usize) -> bool {
 }
 
 // All places of a tree go back to the stock, where it has room for them.
-fn give_back(tree: Pieces, stock: &mut Stock) {
-    if summary(&tree.tree).pieces <= stock.capacity() - stock.len() {
-        recycle(tree.tree, stock);
+fn give_back(pieces: Pieces, stock: &mut Stock) {
+    let tree = pieces.whole.tree;
+    if summary(&tree).pieces <= stock.capacity() - stock.len() {
+        recycle(tree, stock);
     }
 }
 
@@ -236,10 +251,11 @@ fn main(rt: HostRuntime) -> io::Result<()> {
     let alloc = rt.alloc();
     let mut random = Random { state: 1 };
     let mut stock = fill(alloc, PIECES, item(0))?;
-    let tree = build(&mut stock);
-    let numbers = (0..PIECES).collect(alloc)?;
-    let trial = turns(Trial { tree, numbers }, &mut random);
-    let tree = &trial.tree.tree;
+    let pieces = build(&mut stock);
+    let mut numbers = Vec::with_capacity(alloc, PIECES)?;
+    numbers.extend(0..PIECES)?;
+    let trial = turns(Trial { pieces, numbers }, &mut random);
+    let tree = &trial.pieces.whole.tree;
     let all = summary(tree);
     let pieces = all.pieces;
     println!(rt;
@@ -250,10 +266,10 @@ fn main(rt: HostRuntime) -> io::Result<()> {
     println!(rt; "sums agree: {}", sums_agree(tree, &trial.numbers))?;
     let deep = depth(tree);
     println!(rt; "depth {deep}, within the bound: {}", bounded(deep, pieces))?;
-    let count = founds(&trial.tree, &trial.numbers, &mut random);
+    let count = founds(&trial.pieces, &trial.numbers, &mut random);
     println!(rt; "{count} of {SEEKS} offsets and breaks found")?;
     let left = stock.len();
-    give_back(trial.tree, &mut stock);
+    give_back(trial.pieces, &mut stock);
     println!(rt;
         "{left} places left, {} after all were given back",
         stock.len()
