@@ -71,11 +71,10 @@ impl<'t, T: Total> Counter<'t, T> {
         requires back { stop ≤ long self.now.tree.now }
         ensures { (if result then 1 else 0) ≡ joint (take offset (places self.now.tree.now)) (drop stop (places self.now.tree.now)) }
     {
-        let back = self.first_behind(stop);
-        if back.is_none() {
+        if stop == sums(self.tree).length {
             return false;
         }
-        meet(self.last_before(offset), back)
+        meet(self.last_before(offset), Some(self.spot_at(stop)))
     }
 
     // The number of pieces once the `count` places behind the first `offset` are taken out.

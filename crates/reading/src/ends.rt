@@ -29,7 +29,7 @@ impl Spot {
 
 impl<'t, T: Total> Counter<'t, T> {
     // The place at an offset.
-    fn spot_at(&self, offset: usize) -> Spot
+    pub(crate) fn spot_at(&self, offset: usize) -> Spot
         requires { offset < long self.now.tree.now }
         ensures { drop offset (places self.now.tree.now) ≡ spotted (Some result) ++ drop (offset + 1) (places self.now.tree.now) }
     {
