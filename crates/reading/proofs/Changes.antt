@@ -10,7 +10,7 @@ use Rattle.pieces.specs.Spread.{places, Apart}
 use Rattle.pieces.proofs.Spreads.{places_length}
 use Rattle.seeking.proofs.Standing.{placed_is}
 use Rattle.reading.specs.Joints.{joint}
-use Rattle.reading.proofs.Counting.{count_joint, joint_few, joint_first, joint_last, joint_take, pieces_few}
+use Rattle.reading.proofs.Counting.{count_joint, joint_ends, joint_few, joint_first, joint_last, joint_take, pieces_few}
 use Rattle.reading.proofs.Longest.{all_some, count_items, one_piece}
 use Rattle.reading.proofs.Places.{stretch_first, stretch_last}
 
@@ -26,6 +26,11 @@ module _ {T : Type 0} (tree : Tree Place T) (w : Weighed tree) where
 
   pub front_long : (x : ℕ) → x ≤ long tree → length (take x (places tree)) ≡ x
   front_long x l = let cut = length-take x (places tree) in omega (arith, cut, long_places, l)
+
+  -- the places before a gap go on to those behind it just where the last before it goes on to the first behind
+  pub across : (x y : ℕ) (last : List Place) (p : Place) → x ≤ long tree → last ≡ drop (x - 1) (take x (places tree)) → drop y (places tree) ≡ p ∷ drop (y + 1) (places tree) → joint last (p ∷ []) ≡ joint (take x (places tree)) (drop y (places tree))
+  across x y last p l before behind =
+      ap (λ ps. joint ps (p ∷ [])) before ∙ ap (joint (drop (x - 1) (take x (places tree)))) (sym (ap (take 1) behind)) ∙ joint_ends (take x (places tree)) (drop y (places tree)) x (front_long x l)
 
   pub none_behind : (x : ℕ) → x ≡ long tree → drop x (places tree) ≡ []
   none_behind x e = let h = long_places in drop_all x (places tree) (omega (arith, h, e))

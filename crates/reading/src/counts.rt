@@ -66,6 +66,7 @@ impl<'t, T: Total> Counter<'t, T> {
     }
 
     // Whether the first `offset` places go on to those behind the first `stop`, if there are any.
+    #[tactic(auto, using(crate::proofs::Changes::across, crate::proofs::Changes::none_behind, crate::proofs::Counting::joint_none))]
     fn meets_across(&self, offset: usize, stop: usize) -> bool
         requires front { offset ≤ long self.now.tree.now }
         requires back { stop ≤ long self.now.tree.now }
